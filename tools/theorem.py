@@ -23,7 +23,7 @@ BEGIN, END = "<!-- the list begins: tools/theorem.py --write makes it -->", "<!-
 # The promises: a function, and the file in which it stands.
 ROOTS = [("drive", "crates/qc_conn/src/driving.rt"), ("run", "crates/qc_run/src/run.rt")]
 
-WORD = re.compile(r"◌[^\s{}()\[\],;◌]+◌|[\w'«»ℓΑ-Ωα-ω₀-₉+*≡≢≤<-]*\w[\w'»-]*(?:\.[\w'«»-]+)*")
+WORD = re.compile(r"◌[^\s{}()\[\],;◌]+◌|(?<!\)\.)(?<![\w'])[\w'«»ℓΑ-Ωα-ω₀-₉+*≡≢≤<-]*\w[\w'»-]*(?:\.[\w'«»-]+)*")
 
 
 def text_of(path):

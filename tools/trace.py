@@ -6,7 +6,7 @@ ADDRESS = r"(?:[0-9a-f]{8}|[0-9a-f]{32})/\d+"
 SPACE = r"(?:initial|handshake|data)"
 FRAME = r"[A-Z0-9_]+(?:/[0-9a-f]+|\*\d+)"
 REASON = r"[A-Z]\w*(?: \S+)*"
-WORDS = ("datagram", "timeout", "transmit", "close", "ping", "issued", "streams", "sendwindow", "recvwindow", "open", "accept", "write", "finish", "reset", "stop", "read", "send", "recv", "update", "path_changed")
+WORDS = ("datagram", "timeout", "transmit", "close", "ping", "ids", "streams", "sendwindow", "recvwindow", "open", "accept", "write", "finish", "reset", "stop", "read", "send", "recv", "update", "path_changed")
 # The lines of a step, in the order in which their kinds stand; those of one kind may come in any number but for one answer and one timer.
 DEEDS = re.compile(rf"seal {SPACE} \d+ \w+(?: {FRAME})*|piece (?:-|{SPACE}) (?:-|\d+) [A-Z]\w*|gave \w+ (?:{FRAME}|{HEX})|life [0-4]|lost {REASON}|quiet [A-Z]\w*")
 ANSWER = re.compile(rf"out {ADDRESS} \d+ (?:-|\d+) [-0-3] {HEX}|answer [a-z]\w*(?: \S+)*")

@@ -171,6 +171,7 @@ fn endpoint_word(event: EndpointEvent) -> &'static str {
     match event {
         EndpointEvent::ResetToken(..) => "knows the token that resets the connection",
         EndpointEvent::NeedIdentifiers(..) => "wants ids for the other end to use",
+        EndpointEvent::RetireConnectionId(..) => "has an id back from the other end",
         EndpointEvent::Drained => "can be dropped",
     }
 }

@@ -2,6 +2,7 @@ pub mod Closes
 pub mod Elicits
 pub mod Established
 pub mod Fitting
+pub mod Inserted
 pub mod Padding
 pub mod PayloadFrames
 pub mod Reasons

@@ -1,12 +1,14 @@
 //! What one frame does.
 
-ghost use Rattle.std.specs.Prelude.{◌≡◌, true, Some, OnOk, IfOk};
+ghost use Rattle.std.specs.Prelude.{◌≡◌, ◌&&◌, true, Some, OnOk, IfOk};
 ghost use Rattle.qc_admit.specs.Behind.{close_reason, left_by};
+ghost use Rattle.qc_cids.specs.Cids.{uses_first};
 ghost use Rattle.qc_frame.specs.Frame.{ack_map, borrowed, typed};
 ghost use Rattle.qc_frame.specs.FrameFits.{Fits};
 ghost use Rattle.qc_frame.specs.FrameSpelling.{spelling};
+ghost use Rattle.qc_state.specs.Ids.{is_server};
 ghost use Rattle.qc_state.specs.Moves.{is_close};
-ghost use Rattle.qc_state.specs.Receiving.{acked_after, applied_after, close_after, close_given, confirmed_after, frame_after, handed_after, left_after};
+ghost use Rattle.qc_state.specs.Receiving.{acked_after, applied_after, close_after, close_given, confirmed_after, frame_after, handed_after, inserted_after, left_after, retired_after, switched_after};
 ghost use Rattle.qc_state.specs.View.{held};
 
 use crate::behind::Behind;
@@ -15,7 +17,7 @@ use crate::stops::stop_in;
 use bytes::Bytes;
 use qc_base::{Instant, SpaceId};
 use qc_core::Core;
-use qc_frame::{Ack, Frame, FrameOf, TypedFrame, put_frame};
+use qc_frame::{Ack, Frame, FrameOf, NewConnectionId, TypedFrame, put_frame};
 use qc_state::{
     ApplicationClose, Body, Coming, ConnectionClose, ConnectionError, Dids, Layer, Means, Suite,
 };
@@ -191,6 +193,62 @@ fn handed<U: Suite>(
     }
 }
 
+/// A server that still sends to the id of its client's first packets takes the next one into use. Want of memory is the only refusal.
+#[tactic(auto, unfolding(qc_state::specs::Moves::move_to, qc_state::specs::Moves::deeds_move, qc_state::specs::Setup::ideal_setup))]
+fn switched<U: Suite>(core: &mut Core<U>, did: &Dids) -> Result<(), AllocError>
+    ensures { OnOk result ((held U.Random.stream core.new did.now) ≡ switched_after (is_server core.old.setup.fixed.side && uses_first core.old.lower.ids) (held U.Random.stream core.old did.now)) }
+{
+    if !core.uses_first_id() {
+        return Ok(());
+    }
+    core.do_switch()
+}
+
+/// The ids are handed a NEW_CONNECTION_ID: it ends its packet where it is refused, and this end closes for the error; a server that still
+/// sends to the id of its client's first packets takes the new one into use.
+#[tactic(auto, using(crate::proofs::Inserted::new_goes), unfolding(qc_frame::specs::FrameFits::Fits, qc_state::specs::Receiving::inserted_after, qc_state::specs::Setup::ideal_setup))]
+fn inserted<U: Suite>(
+    core: &mut Core<U>,
+    alloc: Global,
+    did: &mut Dids,
+    now: Instant,
+    new: &NewConnectionId,
+) -> Result<Behind, AllocError>
+    requires { Fits (FrameOf.NewConnectionId new.now) }
+    ensures { IfOk result (λ behind. left_by behind (held U.Random.stream core.new did.new) ≡ inserted_after now new.now (held U.Random.stream core.old did.old)) }
+{
+    match core.do_insert(alloc, did, *new)? {
+        None => {
+            switched(core, did)?;
+            Ok(Behind::Goes)
+        }
+        Some(error) => {
+            core.stopped(did, now, error)?;
+            Ok(Behind::Ends)
+        }
+    }
+}
+
+/// The ids are handed a RETIRE_CONNECTION_ID: it ends its packet where it is refused, and this end closes for the error.
+#[tactic(auto, unfolding(qc_state::specs::Receiving::retired_after))]
+fn retired<U: Suite>(
+    core: &mut Core<U>,
+    alloc: Global,
+    did: &mut Dids,
+    now: Instant,
+    sequence: u64,
+) -> Result<Behind, AllocError>
+    ensures { IfOk result (λ behind. left_by behind (held U.Random.stream core.new did.new) ≡ retired_after now sequence (held U.Random.stream core.old did.old)) }
+{
+    match core.do_retire(alloc, did, now, sequence)? {
+        None => Ok(Behind::Goes),
+        Some(error) => {
+            core.stopped(did, now, error)?;
+            Ok(Behind::Ends)
+        }
+    }
+}
+
 /// What a frame does that its kind doesn't stop: a row for each kind that does something.
 #[tactic(auto, unfolding(qc_state::specs::Receiving::applied_after))]
 fn applied<U: Suite>(
@@ -226,6 +284,10 @@ fn applied<U: Suite>(
         | FrameOf::StreamDataBlocked { .. }
         | FrameOf::StreamsBlocked { .. }
         | FrameOf::Datagram { .. } => handed(core, alloc, did, coming.time, frame),
+        FrameOf::NewConnectionId(new) => inserted(core, alloc, did, coming.time, new),
+        FrameOf::RetireConnectionId { sequence } => {
+            retired(core, alloc, did, coming.time, *sequence)
+        }
         _ => Ok(Behind::Goes),
     }
 }

@@ -351,7 +351,8 @@ fn learn_with<U: Suite>(
     ensures { OnOk result ((held U.Random.stream core.new did.now) ≡ learned_with now parameters (held U.Random.stream core.old did.now)) }
 {
     let has_no_ids = core.setup.fixed.local_cid.is_empty();
-    let count = parameters.issue_cids_limit().saturating_sub(1);
+    let issued = core.lower.ids.local.issued();
+    let count = parameters.issue_cids_limit().saturating_sub(issued);
     core.do_learn(parameters);
     if has_no_ids {
         return Ok(());

@@ -111,6 +111,8 @@ fn data_stop(
         | FrameOf::StreamDataBlocked { .. }
         | FrameOf::StreamsBlocked { .. }
         | FrameOf::Datagram { .. }
+        | FrameOf::NewConnectionId(_)
+        | FrameOf::RetireConnectionId { .. }
         | FrameOf::ConnectionClose { .. }
         | FrameOf::ApplicationClose { .. } => None,
         FrameOf::HandshakeDone => done_stop(side),

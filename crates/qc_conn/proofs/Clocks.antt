@@ -2,15 +2,15 @@
 use Rattle.std.proofs.Common.{◌≡◌, ℕ, List, [], ap, ◌∙◌, Option, Result, Ok, Err}
 use Rattle.std.specs.Prelude.{max, OnOk}
 use Rattle.qc_receive.specs.Cutting.{rest_of}
-use Rattle.qc_receive.specs.Events.{handed_after, time_of_event}
+use Rattle.qc_receive.specs.Events.{GivesRight, handed_after, time_of_event}
 use Rattle.qc_receive.specs.declared.events.ConnectionEvent.{ConnectionEvent}
-use Rattle.qc_receive.specs.declared.events.ConnectionEvent.TheVariants.{Datagram}
+use Rattle.qc_receive.specs.declared.events.ConnectionEvent.TheVariants.{Datagram, NewIdentifiers}
 use Rattle.qc_state.specs.declared.transmit.Transmit.{Transmit}
 use Rattle.qc_state.specs.Moves.{Clock, state_move}
 use Rattle.qc_state.specs.Run.{began, close_after}
 use Rattle.qc_state.specs.Types.{Types, Meaning}
 use Rattle.qc_state.specs.View.{View, at}
-use Rattle.qc_laws.proofs.Clocks.{close_clock, event_clock, transmit_clock}
+use Rattle.qc_laws.proofs.Clocks.{close_clock, event_clock, issue_clock, transmit_clock}
 use Rattle.qc_conn.specs.Seen.{Sends}
 
 -- what holds in any case holds where the call is done
@@ -25,8 +25,9 @@ none_done (Err x) e P is = tt
 
 module _ {t : Types} where
   -- an endpoint hands over what came
-  pub handed_clock : (m : Meaning t) (event : ConnectionEvent) (s s' : View t) → s' ≡ (handed_after m event (began s (time_of_event event))).state → s'.timers.greatest ≡ max s.timers.greatest (time_of_event event)
-  handed_clock m (Datagram now remote ecn first_decode remaining) s s' is = event_clock m (record { time = now; remote = remote; mark = ecn }) first_decode (rest_of remaining) s s' is
+  pub handed_clock : (m : Meaning t) (event : ConnectionEvent) (s s' : View t) → GivesRight event s.lower.ids → s' ≡ (handed_after m event (began s (time_of_event event))).state → s'.timers.greatest ≡ max s.timers.greatest (time_of_event event)
+  handed_clock m (NewIdentifiers ids now) s s' may is = issue_clock now ids s s' may is
+  handed_clock m (Datagram now remote ecn first_decode remaining) s s' may is = event_clock m (record { time = now; remote = remote; mark = ecn }) first_decode (rest_of remaining) s s' is
 
   -- a transmit
   pub sent_clock : (m : Meaning t) (time : ℕ) (s s' : View t) (sent : Option Transmit) (buffer : List ℕ) → Sends m time s s' sent buffer → s'.timers.greatest ≡ max s.timers.greatest time

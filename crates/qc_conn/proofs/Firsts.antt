@@ -1,19 +1,21 @@
 -- The first datagram of a server, by a call of its own.
-use Rattle.std.proofs.Common.{◌≡◌, ℕ, List, [], ap, sym, ◌∙◌, Bool, true, false, Option}
+use Rattle.std.proofs.Common.{◌≡◌, ℕ, List, [], ap, sym, ◌∙◌, Bool, true, false, Option, None}
 use Rattle.std.specs.Global.{Global}
 use Rattle.std.specs.declared.net.SocketAddr.{SocketAddr}
 use Rattle.bytes.specs.declared.unique.BytesMut.{BytesMut}
 use Rattle.rand_core.specs.Stream.{Stream}
 use Rattle.qc_base.specs.declared.ecn.EcnCodepoint.{EcnCodepoint}
+use Rattle.qc_base.specs.declared.ids.IssuedCid.{IssuedCid}
+use Rattle.qc_cids.specs.Cids.{give_refusal}
 use Rattle.qc_receive.specs.Cutting.{rest_of}
 use Rattle.qc_receive.specs.Events.{handed_after, time_of_event}
 use Rattle.qc_receive.specs.declared.events.ConnectionEvent.{ConnectionEvent}
-use Rattle.qc_receive.specs.declared.events.ConnectionEvent.TheVariants.{Datagram}
+use Rattle.qc_receive.specs.declared.events.ConnectionEvent.TheVariants.{Datagram, NewIdentifiers}
 use Rattle.qc_header.specs.Piece.{Piece}
 use Rattle.qc_state.specs.declared.coming.Coming.{Coming}
 use Rattle.qc_state.specs.declared.deeds.Did.{Did}
 use Rattle.qc_state.specs.Life.{is_drained}
-use Rattle.qc_state.specs.Moves.{Clock, state_move, life_move, setup_move}
+use Rattle.qc_state.specs.Moves.{Clock, Issue, state_move, move_to, life_move, lower_move, setup_move}
 use Rattle.qc_state.specs.Receiving.{datagram_after, event_after, is_taken}
 use Rattle.qc_state.specs.Run.{began}
 use Rattle.qc_state.specs.Setup.{is_first_awaited, ideal_setup}
@@ -24,6 +26,11 @@ use Rattle.qc_state.specs.View.{View, Held, At, at, ideal}
 pub still_awaited : {t : Types} {R : Type 0} (stream : R → Stream) (c c' : Held t R) (now : ℕ) → ideal stream c' ≡ state_move (Clock now) (ideal stream c) → is_first_awaited c.setup ≡ true → is_first_awaited c'.setup ≡ true
 unfolding is_first_awaited ideal_setup state_move setup_move
 still_awaited {t} stream c c' now told h = ap (λ (v : View t). is_first_awaited v.setup) told ∙ h
+
+-- and the ids of both ends, so that those may be given that might before
+pub still_given : {t : Types} {R : Type 0} (stream : R → Stream) (c c' : Held t R) (now : ℕ) (given : List IssuedCid) → ideal stream c' ≡ state_move (Clock now) (ideal stream c) → give_refusal given c.lower.ids ≡ None → give_refusal given c'.lower.ids ≡ None
+unfolding state_move lower_move
+still_given {t} stream c c' now given told h = ap (λ (v : View t). give_refusal given v.lower.ids) told ∙ h
 
 -- and whether the connection has ended
 pub still_alive : {t : Types} {R : Type 0} (stream : R → Stream) (c c' : Held t R) (now : ℕ) → ideal stream c' ≡ state_move (Clock now) (ideal stream c) → is_drained c.life.state ≡ false → is_drained c'.life.state ≡ false
@@ -59,3 +66,10 @@ pub event_leads : {t : Types} (m : Meaning t) (event : ConnectionEvent) (now : �
 event_leads {t} m event now remote mark first behind s mid last ds es case told none is =
     told_leads (event_after m (record { time = now; remote = remote; mark = mark }) first (rest_of behind)) s mid last now ds es told none is
     ∙ sym (ap (λ (e : ConnectionEvent). (handed_after m e (began s (time_of_event e))).state) case)
+
+-- so ids that it gives
+pub given_leads : {t : Types} (m : Meaning t) (event : ConnectionEvent) (given read : List IssuedCid) (now : ℕ) (s mid last : View t) → event ≡ NewIdentifiers given now → read ≡ given → mid ≡ state_move (Clock now) s → last ≡ state_move (Issue now read) mid →
+    last ≡ (handed_after m event (began s (time_of_event event))).state
+unfolding began move_to
+given_leads {t} m event given read now s mid last case same told is =
+    is ∙ ap (λ (x : List IssuedCid). state_move (Issue now x) mid) same ∙ ap (λ (v : View t). state_move (Issue now given) v) told ∙ sym (ap (λ (e : ConnectionEvent). (handed_after m e (began s (time_of_event e))).state) case)

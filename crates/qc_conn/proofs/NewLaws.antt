@@ -1,10 +1,11 @@
 -- What holds of each view that was just made holds of a connection that was just made: of the bytes that its session wrote, the loss
--- timer, ACKs that are held back, the CRYPTO streams, and the streams of the application.
-use Rattle.std.proofs.Common.{◌≡◌, ℕ, List, [], Bool, true, false, None, Some, refl, sym, subst}
+-- timer, ACKs that are held back, the CRYPTO streams, the streams of the application, and the id that packets carry.
+use Rattle.std.proofs.Common.{◌≡◌, ℕ, List, [], Bool, true, false, None, Some, refl, sym, subst, arith}
 use Rattle.rand_core.specs.Stream.{Stream}
 use Rattle.std.specs.declared.net.SocketAddr.{SocketAddr}
 use Rattle.qc_base.specs.declared.side.Side.TheVariants.{Client, Server}
 use Rattle.qc_base.specs.declared.side.SpaceId.{SpaceId}
+use Rattle.qc_cids.specs.Cids.{first_ids}
 use Rattle.qc_recovery.specs.TransportValues.{TransportValues}
 use Rattle.qc_state.specs.declared.keys.SpaceKeys.{SpaceKeys}
 use Rattle.qc_state.specs.declared.paths.Paths.{Paths}
@@ -14,6 +15,7 @@ use Rattle.qc_laws.specs.CryptoLaws.{CryptoKept}
 use Rattle.qc_state.specs.First.{first_path, first_view, just_made, server_view}
 use Rattle.qc_state.specs.Keys.{new_keys}
 use Rattle.qc_state.specs.Paths.{new_path, only_path}
+use Rattle.qc_laws.specs.IdLaws.{CarriesUsed}
 use Rattle.qc_laws.specs.PostLaws.{HasNewDatagrams}
 use Rattle.qc_laws.specs.ReadLaws.{HasNewStreams}
 use Rattle.qc_laws.specs.StreamLaws.{IsUnread}
@@ -39,6 +41,12 @@ module _ {t : Types} (P : View t → Type 0) (made : (keys : SpaceKeys t.H t.P) 
   server_view_holds m session words fixed remote remote_cid validated transport congestion time =
       made (new_keys m.seal_limit m.failure_limit (m.initial session fixed.first_cid Server)) session [] [] words fixed
       (only_path (new_path remote remote_cid validated (first_path m.control transport congestion time)) (Some remote_cid)) transport time
+
+-- packets carry the one id of the peer that is known
+made_used : (t : Types) (keys : SpaceKeys t.H t.P) (session : t.S) (hello token : List ℕ) (words : Stream) (fixed : Fixed) (paths : Paths t.C) (transport : TransportValues) (time : ℕ) →
+    CarriesUsed (just_made {t = t} keys session hello token words fixed paths transport time)
+unfolding first_ids
+made_used t keys session hello token words fixed paths transport time = record { some = omega arith; used = refl }
 
 -- so of one that was made so
 module _ {t : Types} {R : Type 0} where
@@ -107,3 +115,14 @@ module _ {t : Types} {R : Type 0} where
       ideal stream v ≡ server_view m session words fixed remote remote_cid validated transport congestion time → HasNewDatagrams (ideal stream v)
   server_unposted stream m session words fixed remote remote_cid validated transport congestion time v is =
       subst (λ (s : View t). HasNewDatagrams s) (sym is) (server_view_holds (λ (s : View t). HasNewDatagrams s) (λ keys session hello token words fixed paths transport time. (transport.datagram_receive_buffer_size, transport.datagram_send_buffer_size, refl)) m session words fixed remote remote_cid validated transport congestion time)
+
+  -- packets to the peer carry its id that is in use
+  pub first_used : (stream : R → Stream) (m : Meaning t) (session : t.S) (words : Stream) (fixed : Fixed) (remote : SocketAddr) (first_cid token : List ℕ) (transport : TransportValues) (congestion : t.C) (time : ℕ) (v : Held t R) →
+      ideal stream v ≡ first_view m session words fixed remote first_cid token transport congestion time → CarriesUsed (ideal stream v)
+  first_used stream m session words fixed remote first_cid token transport congestion time v is =
+      subst (λ (s : View t). CarriesUsed s) (sym is) (client_view (λ (s : View t). CarriesUsed s) (made_used t) m session words fixed remote first_cid token transport congestion time)
+
+  pub server_used : (stream : R → Stream) (m : Meaning t) (session : t.S) (words : Stream) (fixed : Fixed) (remote : SocketAddr) (remote_cid : List ℕ) (validated : Bool) (transport : TransportValues) (congestion : t.C) (time : ℕ) (v : Held t R) →
+      ideal stream v ≡ server_view m session words fixed remote remote_cid validated transport congestion time → CarriesUsed (ideal stream v)
+  server_used stream m session words fixed remote remote_cid validated transport congestion time v is =
+      subst (λ (s : View t). CarriesUsed s) (sym is) (server_view_holds (λ (s : View t). CarriesUsed s) (made_used t) m session words fixed remote remote_cid validated transport congestion time)

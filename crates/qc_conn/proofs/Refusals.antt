@@ -4,10 +4,12 @@ use Rattle.std.proofs.Math.Seq.{drop-cons}
 use Rattle.std.proofs.lemmas.Bool.Decides.{nat_tests}
 use Rattle.std.proofs.lemmas.List.{take_more}
 use Rattle.std.specs.Option.{option_map}
+use Rattle.qc_cids.specs.declared.giving.GiveRefusal.{GiveRefusal}
+use Rattle.qc_cids.specs.declared.giving.GiveRefusal.TheVariants as give
 use Rattle.qc_conn.specs.declared.driving.BadWhy.{BadWhy}
 use Rattle.qc_conn.specs.declared.driving.DriveKind.{DriveKind}
 use Rattle.qc_conn.specs.declared.driving.DriveKind.TheVariants.{TimeBack, BadCall}
-use Rattle.qc_conn.specs.Refusal.{bad_call, refusal_of, place_of, RefusedAt, TakesAll}
+use Rattle.qc_conn.specs.Refusal.{bad_call, bad_ids, refusal_of, place_of, RefusedAt, TakesAll}
 use Rattle.qc_state.specs.declared.input.Input.{Input}
 use Rattle.qc_state.specs.declared.trace.Step.{Step}
 use Rattle.qc_state.specs.Run.{time_of, Adds, IsStep}
@@ -17,6 +19,19 @@ use Rattle.qc_state.specs.View.{View}
 forward_by : (k greatest time : ℕ) (b : Bool) (o : Option BadWhy) → nat_lt time greatest ≡ b → (if b then Some (TimeBack k time greatest) else option_map (BadCall k) o) ≡ None → greatest ≤ time
 forward_by k greatest time true o e h = cc
 forward_by k greatest time false o e h = grind (arith, nat_tests)
+
+-- nor does it ask for a call that can't be made
+good_by : (k greatest time : ℕ) (b : Bool) (o : Option BadWhy) → (if b then Some (TimeBack k time greatest) else option_map (BadCall k) o) ≡ None → o ≡ None
+good_by k greatest time true o h = cc
+good_by k greatest time false None h = refl
+good_by k greatest time false (Some why) h = cc
+
+-- where nothing is wrong with ids that are given, they may be given
+pub ids_good : (refusal : Option GiveRefusal) → bad_ids refusal ≡ None → refusal ≡ None
+ids_good None h = refl
+ids_good (Some (give.NotAsked asked given)) h = cc
+ids_good (Some (give.Sequence wanted given)) h = cc
+ids_good (Some (give.IdLength wanted given)) h = cc
 
 -- the input at this place, and those behind it
 left_from : (is : List Input) (n : ℕ) (i : Input) → n < length is → i ≡ get_or is n i → drop n is ≡ i ∷ drop (n + 1) is
@@ -43,7 +58,11 @@ module _ {t : Types} where
   pub taken_forward : (k : ℕ) (s : View t) (i : Input) → refusal_of k s i ≡ None → s.timers.greatest ≤ time_of i
   taken_forward k s i h = forward_by k s.timers.greatest (time_of i) (nat_lt (time_of i) s.timers.greatest) (bad_call s i) refl h
 
-  -- and its place is told
+  -- and asks for a call that can be made
+  pub taken_good : (k : ℕ) (s : View t) (i : Input) → refusal_of k s i ≡ None → bad_call s i ≡ None
+  taken_good k s i h = good_by k s.timers.greatest (time_of i) (nat_lt (time_of i) s.timers.greatest) (bad_call s i) h
+
+  -- of one that is refused the place is told
   pub refusal_place : (k : ℕ) (s : View t) (i : Input) (kind : DriveKind) → refusal_of k s i ≡ Some kind → place_of kind ≡ Some k
   refusal_place k s i kind h = place_by k s.timers.greatest (time_of i) _ (bad_call s i) kind h
 
@@ -76,6 +95,11 @@ module _ {t : Types} where
       subst (λ (js : List Input). TakesAll m 0 s js ys s') (sym more)
       (subst (λ (zs : List Step). TakesAll m 0 s (take i is ++ x ∷ []) zs s') (sym adds.added)
       (takes_more m 0 s (take i is) xs mid s' x adds.step r (subst (λ (n : ℕ). refusal_of n mid x ≡ None) number none) (subst (λ (n : ℕ). IsStep m n mid x adds.step s') number adds.is_step)))
+
+  -- the inputs before were done, and this one asks for a call that can be made
+  pub next_good : (m : Meaning t) (s mid : View t) (is : List Input) (xs : List Step) (x : Input) (i k : ℕ) → i < length is → x ≡ get_or is i x → k ≡ i → TakesAll m 0 s (take i is) xs mid →
+      refusal_of k mid x ≡ None → bad_call mid x ≡ None
+  next_good m s mid is xs x i k h e place taken none = taken_good k mid x none
 
   -- the inputs before were done, and this one is refused
   pub refused_at : (m : Meaning t) (s last : View t) (is : List Input) (i : Input) (kind : DriveKind) (xs : List Step) (n k : ℕ) (failed : Bool) →

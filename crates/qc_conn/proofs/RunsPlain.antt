@@ -8,6 +8,7 @@ use Rattle.std.proofs.lemmas.Bool.Decides.{nat_tests}
 use Rattle.std.proofs.lemmas.List.Elements.{All-nil, All-cons, All-append}
 use Rattle.rand_core.specs.Stream.{Stream}
 use Rattle.qc_base.specs.Varint.{IsNumber}
+use Rattle.qc_base.specs.declared.ids.IssuedCid.{IssuedCid}
 use Rattle.qc_base.specs.declared.side.Side.{Side}
 use Rattle.qc_base.specs.declared.side.SpaceId.{SpaceId}
 use Rattle.qc_base.specs.declared.side.SpaceId.TheVariants.{Initial, Handshake, «Data»}
@@ -18,10 +19,12 @@ use Rattle.qc_frame.specs.FrameSpelling.{spelling, frames_spelling}
 use Rattle.qc_frame.specs.Sizes.{IsLongestReason}
 use Rattle.qc_frame.specs.declared.frames.FrameOf.TheVariants as frames
 use Rattle.qc_frame.proofs.Lengths.{length-application_close}
+use Rattle.qc_cids.specs.Cids.{asks_one, next_token, token_by}
 use Rattle.qc_datagrams.specs.Datagrams.{send_refusal}
 use Rattle.qc_datagrams.specs.Steps as datagrams
 use Rattle.qc_datagrams.specs.declared.datagrams.SendRefusal.{SendRefusal}
 use Rattle.qc_datagrams.specs.declared.datagrams.SendRefusal.TheVariants as send
+use Rattle.qc_ids.specs.LocalCids.{may_retire}
 use Rattle.qc_recv.specs.declared.recv.Chunk.{Chunk}
 use Rattle.qc_recovery.specs.TransportValues.{TransportValues}
 use Rattle.qc_recovery.specs.declared.calls.Fired.{Fired}
@@ -61,13 +64,14 @@ use Rattle.qc_state.specs.declared.trace.Step.{Step}
 use Rattle.qc_state.specs.declared.trace.Answer.TheVariants as answer
 use Rattle.qc_state.specs.declared.waiting.SpaceWaiting.{SpaceWaiting}
 use Rattle.qc_state.specs.declared.waiting.Waiting.{Waiting}
-use Rattle.qc_state.specs.Life.{is_closed, is_open, data_ready, datagram_heard, drained_event, identifiers_wanted, life_closed, life_drained, life_established, life_raised, reason_given, token_learned, notices_reported, drained_reported, lost_reported, connected_reported, ready_reported}
-use Rattle.qc_state.specs.Moves.{Move, Take, Seal, Forget, Raise, Say, Give, Enter, Fail, Accept, Fix, Hear, Ack, Fire, Arm, Pace, Release, Begin, Skip, Come, Read, Write, Ready, Learn, Establish, Tell, PeerClosesToo, PeerCloses, Owe, Shut, Hand, Call, Post, IsTold, MayMove, told, state_move, move_to, deeds_move, life_move, paths_move, waiting_move, keys_move, Expect, Confirm, Token, Want, Finish}
+use Rattle.qc_state.specs.Life.{is_closed, is_open, data_ready, datagram_heard, drained_event, identifiers_wanted, life_closed, life_drained, life_established, life_raised, reason_given, retirement_told, token_learned, token_told, notices_reported, drained_reported, lost_reported, connected_reported, ready_reported}
+use Rattle.qc_state.specs.Moves.{Move, Take, Seal, Forget, Raise, Say, Give, Enter, Fail, Accept, Fix, Hear, Ack, Fire, Arm, Pace, Release, Begin, Skip, Come, Read, Write, Ready, Learn, Establish, Tell, PeerClosesToo, PeerCloses, Owe, Shut, Hand, Insert, Switch, Retire, Issue, Outlive, Call, Post, IsTold, MayMove, told, state_move, move_to, deeds_move, life_move, paths_move, waiting_move, keys_move, Expect, Confirm, Token, Want, Finish}
 use Rattle.qc_state.specs.Datagrams.{sent_answer, taken_answer, tells_datagram}
 use Rattle.qc_state.specs.Forms.{is_early, number_space}
+use Rattle.qc_state.specs.Ids.{active_limit}
 use Rattle.qc_state.specs.Keys.{epoch_in}
 use Rattle.qc_state.specs.Numbers.{next_number, received_number}
-use Rattle.qc_state.specs.Paths.{path_idle, path_kept, path_sent, path_received, peer_fixed, path_accepted, path_spun, new_path, only_path}
+use Rattle.qc_state.specs.Paths.{path_idle, path_kept, path_named, path_sent, path_received, peer_fixed, path_accepted, path_spun, new_path, only_path}
 use Rattle.qc_state.specs.Receiving.{datagram_after, is_taken}
 use Rattle.qc_state.specs.Run.{time_of, began, close_after, called_all, datagram_limit, input_after, called, reported, step_after, IsAllowed, out_of, answer_of, IsStep, Run, Ran}
 use Rattle.qc_state.specs.Sending.{told_code, told_type, told_application_code, told_close, close_frame, closing_frame, IsKeptReason, Closes, padded, padding_of, packet_size, Carries, transmit_after, MayTransmit, transmit_bytes, transmit_of, transmit_with, Choice, Ending, Went, Hushed, Died, sent_out, gone_after}
@@ -85,6 +89,7 @@ use Rattle.qc_state.specs.Offers.{packet_begun}
 use Rattle.qc_state.specs.Waiting.{again, all_again, lost_in, confirmed, all_confirmed, acked_in, packets_lost, packets_acked, probes_added, probe_spent, frames_again, fired_in, ping_asked, waiting_without, close_begun, packet_told, untold, came_in, packet_came, ack_released, bundle_next, crypto_more, crypto_written, nothing_left, space_left, without, without_all, done_asked}
 use Rattle.qc_state.proofs.Probed.{begun_holds, taken_space}
 use Rattle.qc_state.proofs.Expired.{IsTimed, holds_timeout}
+use Rattle.qc_state.proofs.IdsTaken.{retired_fits}
 use Rattle.qc_state.proofs.ReceivedMoves.{IsReceived}
 use Rattle.qc_laws.proofs.Receives.{holds_datagram}
 use Rattle.qc_text.specs.OneText.{IsSpelled, IsDeedPlain, IsPlainAddress, IsAnswerPlain, IsEndpointPlain, IsPlain, IsSpaceBelowLimit, IsBelowLimit, IsPlainStart, IsTellingRun}
@@ -113,6 +118,9 @@ module _ {t : Types} where
   frame_spelled time s id (frames.MaxData limit) h b = ((h.2, refl), b)
   frame_spelled time s id (frames.MaxStreamData stream limit) h b = ((h.2, refl), b)
   frame_spelled time s id (frames.MaxStreams dir limit) h b = ((h.2, refl), b)
+  frame_spelled time s id (frames.Datagram body) h b = ((h.2, refl), b)
+  frame_spelled time s id (frames.NewConnectionId new) h b = ((h.2, refl), b)
+  frame_spelled time s id (frames.RetireConnectionId sequence) h b = ((retired_fits s.lower.ids sequence h.1, refl), b)
   frame_spelled time s id _ h b = absurd h
 
   frames_spelled : (time : ℕ) (s : View t) (id : SpaceId) (fs : List FrameValue) → WaitAll time s id fs → IsSpaceBelowLimit (space_of s.waiting.spaces id) →
@@ -433,6 +441,18 @@ heard_notices false v = refl
 one_notice : (es : List EndpointEvent) (e : EndpointEvent) → IsEndpointPlain e → All IsEndpointPlain es → All IsEndpointPlain (es ++ e ∷ [])
 one_notice es e h k = All-append IsEndpointPlain es (e ∷ []) k (All-cons IsEndpointPlain e [] h (All-nil IsEndpointPlain))
 
+-- so a token of the peer's, where one came with an id of its
+token_notices : (v : Life) (remote : SocketAddr) (o : Option (List ℕ)) → IsPlainAddress remote → AreNoticesPlain v → AreNoticesPlain (token_told v remote o)
+unfolding token_learned
+token_notices v remote None p k = k
+token_notices v remote (Some token) p k = one_notice v.notices (endpoint.ResetToken remote token) p k
+
+-- and an id of this end that the peer retired, where it may
+retired_notices : (v : Life) (may : Bool) (time n : ℕ) (more : Bool) → AreNoticesPlain v → AreNoticesPlain (if may then retirement_told v time n more else v)
+unfolding retirement_told
+retired_notices v true time n more k = one_notice v.notices (endpoint.RetireConnectionId time n more) tt k
+retired_notices v false time n more k = k
+
 -- what is reported to the endpoint leaves nothing out then
 drained_plain : (d : Bool) → All IsEndpointPlain (option_to_list (if d then Some endpoint.Drained else None))
 drained_plain true = All-cons IsEndpointPlain endpoint.Drained [] tt (All-nil IsEndpointPlain)
@@ -485,7 +505,7 @@ module _ {t : Types} where
   keeps_next a b c g h = record { deeds = λ b p. h.deeds (g.crypto b) (g.deeds b p); crypto = λ p. h.crypto (g.crypto p); path = h.path ∙ g.path; notices = λ p k. h.notices (subst IsPlainAddress (sym g.path) p) (g.notices p k) }
 
   keeps_move : (x : Move t) → IsReceived x → (a : At t) → MayMove x a.state → Keeps a (move_to x a)
-  unfolding MayMove move_to state_move deeds_move waiting_move close_begun space_left packet_came came_in crypto_written done_asked paths_move path_kept path_received path_accepted peer_fixed life_move data_ready life_established life_drained life_closed life_raised token_learned identifiers_wanted
+  unfolding MayMove move_to state_move deeds_move waiting_move close_begun space_left packet_came came_in crypto_written done_asked paths_move path_kept path_named path_received path_accepted peer_fixed life_move data_ready life_established life_drained life_closed life_raised token_learned identifiers_wanted
   keeps_move (Forget id) r a h = record { deeds = λ b p. p; crypto = set_below a.state.waiting id _ (nothing_below (space_of a.state.waiting.spaces id)); path = refl; notices = λ p k. k }
   keeps_move (Enter id n v) r a h = record { deeds = λ b. one_more a.did _ tt; crypto = λ p. p; path = refl; notices = λ p k. k }
   keeps_move (Expect token) r a h = record { deeds = λ b p. p; crypto = λ p. p; path = refl; notices = λ p k. k }
@@ -511,6 +531,14 @@ module _ {t : Types} where
   keeps_move Establish r a h = record { deeds = λ b. one_more a.did _ tt; crypto = λ p. p; path = refl; notices = λ p k. k }
   keeps_move (Tell d) r a h = record { deeds = λ b. one_more a.did d (told_plain d h); crypto = λ p. p; path = refl; notices = λ p k. k }
   keeps_move (Hand frame) r a h = record { deeds = λ b. handed_plain a.did frame (is_given_to_streams frame); crypto = λ p. p; path = refl; notices = λ p k. same_notices a.state.life (datagram_heard (tells_datagram frame a.state.lower.datagrams) a.state.life) (heard_notices (tells_datagram frame a.state.lower.datagrams) a.state.life) k }
+  keeps_move (Insert new) r a h = record { deeds = λ b. one_more a.did _ tt; crypto = λ p. p; path = refl; notices = λ p k. token_notices a.state.life a.state.paths.current.remote (token_by new a.state.lower.ids.remote) p k }
+  keeps_move Switch r a h = record { deeds = λ b p. p; crypto = λ p. p; path = refl; notices = λ p k. token_notices a.state.life a.state.paths.current.remote (next_token a.state.lower.ids.remote) p k }
+  keeps_move (Retire time n) r a h = record {
+    deeds = λ b. one_more a.did _ tt;
+    crypto = λ p. p;
+    path = refl;
+    notices = λ p k. retired_notices a.state.life (may_retire n a.state.lower.ids.local) time n (asks_one (active_limit a.state.setup.peer) n a.state.lower.ids) k;
+  }
   keeps_move PeerClosesToo r a h = record { deeds = λ b. one_more a.did _ tt; crypto = λ p. p; path = refl; notices = λ p k. k }
   keeps_move (PeerCloses time) r a h = record { deeds = λ b. one_more a.did _ tt; crypto = λ p. p; path = refl; notices = λ p k. k }
   keeps_move Owe r a h = record { deeds = λ b p. p; crypto = begun_below a.state.waiting a.state.waiting.close_owed; path = refl; notices = λ p k. k }
@@ -524,11 +552,13 @@ module _ {t : Types} where
 
   -- what a timer does keeps the same
   keeps_timed : (x : Move t) → IsTimed x → (a : At t) → MayMove x a.state → Keeps a (move_to x a)
-  unfolding MayMove move_to state_move deeds_move waiting_move ack_released paths_move path_kept life_move life_raised
+  unfolding MayMove move_to state_move deeds_move waiting_move ack_released paths_move path_kept life_move life_raised identifiers_wanted
   keeps_timed (Fire after) r a h = record { deeds = λ b p. p; crypto = fired_below a.state.waiting after.fired; path = refl; notices = λ p k. k }
   keeps_timed (Arm time) r a h = record { deeds = λ b p. p; crypto = λ p. p; path = refl; notices = λ p k. k }
   keeps_timed Pace r a h = record { deeds = λ b p. p; crypto = λ p. p; path = refl; notices = λ p k. k }
   keeps_timed Release r a h = record { deeds = λ b p. p; crypto = λ p. p; path = refl; notices = λ p k. k }
+  keeps_timed Outlive r a h = record { deeds = λ b p. p; crypto = λ p. p; path = refl; notices = λ p k. k }
+  keeps_timed (Want time count) r a h = record { deeds = λ b p. p; crypto = λ p. p; path = refl; notices = λ p k. one_notice a.state.life.notices (endpoint.NeedIdentifiers time count) tt k }
   keeps_timed (Raise to) r a h = record { deeds = λ b. one_more a.did _ tt; crypto = λ p. p; path = refl; notices = λ p k. k }
   keeps_timed (Give why) r a h = record { deeds = λ b. one_more a.did _ tt; crypto = λ p. p; path = refl; notices = λ p k. same_notices a.state.life (reason_given a.state.life why) (given_notices a.state.life why) k }
   keeps_timed _ r a h = absurd r
@@ -587,6 +617,11 @@ module _ {t : Types} where
   unfolding move_to state_move deeds_move waiting_move paths_move life_move
   keeps_post x a = record { deeds = λ b p. p; crypto = λ p. p; path = refl; notices = λ p k. k }
 
+  -- ids of this end are given
+  keeps_issue : (time : ℕ) (given : List IssuedCid) (a : At t) → Keeps a (move_to (Issue time given) a)
+  unfolding move_to state_move deeds_move waiting_move paths_move life_move
+  keeps_issue time given a = record { deeds = λ b p. p; crypto = λ p. p; path = refl; notices = λ p k. k }
+
   -- what an input does
   keeps_input : (m : Meaning t) (i : Input) (choice : Choice) (a : At t) → IsAllowed m i choice a → Keeps a (input_after m i choice a)
   unfolding IsAllowed input_after close_after move_to state_move deeds_move waiting_move ping_asked paths_move life_move
@@ -607,6 +642,7 @@ module _ {t : Types} where
   keeps_input m (input.MaxStreams time dir count) choice a may = keeps_calls (calls_of (input.MaxStreams time dir count) choice.read a.state.lower.streams) a
   keeps_input m (input.SendWindow time size) choice a may = keeps_calls (calls_of (input.SendWindow time size) choice.read a.state.lower.streams) a
   keeps_input m (input.ReceiveWindow time size) choice a may = keeps_calls (calls_of (input.ReceiveWindow time size) choice.read a.state.lower.streams) a
+  keeps_input m (input.Identifiers time given) choice a may = keeps_issue time given a
 
   -- what it answers
   out_plain : (e : Ending) (s : View t) (size : ℕ) (bytes : List ℕ) → IsPlainAddress s.paths.current.remote → IsAnswerPlain (out_of (sent_out e (transmit_with s size)) bytes)
@@ -634,6 +670,7 @@ module _ {t : Types} where
   answer_plain m (input.MaxStreams time dir count) choice a h = tt
   answer_plain m (input.SendWindow time size) choice a h = tt
   answer_plain m (input.ReceiveWindow time size) choice a h = tt
+  answer_plain m (input.Identifiers time given) choice a h = tt
 
   -- what a step does before anything is reported
   keeps_step : (m : Meaning t) (k : ℕ) (s : View t) (i : Input) (x : Step) (s' : View t) (e : IsStep m k s i x s') → Keeps (began s (time_of i)) (called m s i e.choice)

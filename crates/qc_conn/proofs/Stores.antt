@@ -15,6 +15,7 @@ no_token : (l : Layer) (body : List ℕ) → tokens_of l body ≡ []
 no_token layer.Streams body = refl
 no_token layer.Recovery body = refl
 no_token layer.Session body = refl
+no_token layer.Ids body = refl
 no_token layer.Life body = refl
 
 no_tokens : (ds : List Did) → tokens_in ds ≡ []

@@ -3,7 +3,7 @@ use Rattle.std.proofs.Common.{◌≡◌, ℕ, List, [], refl, ap, ◌∙◌, tru
 use Rattle.qc_core.specs.StreamCalls.{CallsStreams}
 use Rattle.qc_state.specs.declared.deeds.Did.{Did}
 use Rattle.qc_state.specs.declared.input.Input.{Input}
-use Rattle.qc_state.specs.declared.input.Input.TheVariants.{Datagram, Timeout, Transmit, Open, Accept, Write, Finish, ResetSend, StopRecv, Read, Close, Ping, SendDatagram, RecvDatagram, MaxStreams, SendWindow, ReceiveWindow}
+use Rattle.qc_state.specs.declared.input.Input.TheVariants.{Datagram, Timeout, Transmit, Open, Accept, Write, Finish, ResetSend, StopRecv, Read, Close, Ping, SendDatagram, RecvDatagram, MaxStreams, SendWindow, ReceiveWindow, Identifiers}
 use Rattle.qc_state.specs.declared.trace.Answer.{Answer}
 use Rattle.qc_state.specs.Moves.{Clock, state_move}
 use Rattle.qc_state.specs.Run.{Calls, IsAllowed, answer_of, input_after, time_of}
@@ -33,6 +33,7 @@ module _ {t : Types} where
   for_streams m (Ping time) is = cc
   for_streams m (SendDatagram time body) is = cc
   for_streams m (RecvDatagram time) is = cc
+  for_streams m (Identifiers time ids) is = cc
 
   -- the time is told, and then the call is made
   pub stream_called : (m : Meaning t) (s mid b : View t) (i : Input) (time : ℕ) (ds : List Did) (answer : Answer) → is_streams_call i ≡ true → mid ≡ state_move (Clock time) s → time ≡ time_of i → ds ≡ [] → CallsStreams i mid b answer →

@@ -1,12 +1,15 @@
 -- Inputs that are refused: those whose time falls, and those that ask for a call that can't be made of the connection as it is.
 use Rattle.std.specs.Prelude.{◌≡◌, ℕ, ◌+◌, Bool, false, nat_lt, if◌then◌else◌, ◌==◌, List, [], ◌∷◌, length, take, drop, Option, Some, None}
 use Rattle.std.specs.Option.{option_map}
+use Rattle.qc_cids.specs.Cids.{give_refusal}
+use Rattle.qc_cids.specs.declared.giving.GiveRefusal.{GiveRefusal}
+use Rattle.qc_cids.specs.declared.giving.GiveRefusal.TheVariants as give
 use Rattle.qc_conn.specs.declared.driving.BadWhy.{BadWhy}
-use Rattle.qc_conn.specs.declared.driving.BadWhy.TheVariants.{ZeroDatagrams, Direction}
+use Rattle.qc_conn.specs.declared.driving.BadWhy.TheVariants.{ZeroDatagrams, Direction, NotAsked, Sequence, IdLength}
 use Rattle.qc_conn.specs.declared.driving.DriveKind.{DriveKind}
 use Rattle.qc_conn.specs.declared.driving.DriveKind.TheVariants.{OutOfMemory, TimeBack, BadCall, Failed}
 use Rattle.qc_state.specs.declared.input.Input.{Input}
-use Rattle.qc_state.specs.declared.input.Input.TheVariants.{Datagram, Timeout, Transmit, Open, Accept, Write, Finish, ResetSend, StopRecv, Read, SendDatagram, RecvDatagram, Close, Ping, MaxStreams, SendWindow, ReceiveWindow}
+use Rattle.qc_state.specs.declared.input.Input.TheVariants.{Datagram, Timeout, Transmit, Open, Accept, Write, Finish, ResetSend, StopRecv, Read, SendDatagram, RecvDatagram, Close, Ping, MaxStreams, SendWindow, ReceiveWindow, Identifiers}
 use Rattle.qc_state.specs.declared.trace.Step.{Step}
 use Rattle.qc_state.specs.Run.{time_of, IsStep}
 use Rattle.qc_state.specs.Streams.{sends_on, receives_on}
@@ -17,9 +20,17 @@ use Rattle.qc_state.specs.View.{View}
 abbrev pub bad_direction : (allowed : Bool) → (id : ℕ) → Option BadWhy
 bad_direction allowed id = if allowed then None else Some (Direction id)
 
+-- what is wrong with ids that are given
+abbrev pub bad_ids : Option GiveRefusal → Option BadWhy
+bad_ids None = None
+bad_ids (Some (give.NotAsked asked given)) = Some (NotAsked asked given)
+bad_ids (Some (give.Sequence wanted given)) = Some (Sequence wanted given)
+bad_ids (Some (give.IdLength wanted given)) = Some (IdLength wanted given)
+
 module _ {t : Types} where
   -- what is wrong with the call that an input asks for of a connection: a transmit has to be allowed at least one datagram, and a call
-  -- of a stream has to be one that the stream's direction allows this end (RFC 9000, section 2.1)
+  -- of a stream has to be one that the stream's direction allows this end (RFC 9000, section 2.1); ids that are given have to be no more than
+  -- were asked for, with the next numbers, and of the length of this end's
   abbrev pub bad_call : View t → Input → Option BadWhy
   bad_call s (Transmit time max) = if max == 0 then Some ZeroDatagrams else None
   bad_call s (Datagram time remote ecn bytes) = None
@@ -38,6 +49,7 @@ module _ {t : Types} where
   bad_call s (MaxStreams time dir count) = None
   bad_call s (SendWindow time size) = None
   bad_call s (ReceiveWindow time size) = None
+  bad_call s (Identifiers time ids) = bad_ids (give_refusal ids s.lower.ids)
 
   -- why a connection refuses the input with the number k, if it does: its time lies before the greatest so far, or it asks for a call
   -- that can't be made

@@ -10,6 +10,7 @@ abbrev pub tokens_of : Layer → List ℕ → List (List ℕ)
 tokens_of layer.Streams body = []
 tokens_of layer.Recovery body = []
 tokens_of layer.Session body = []
+tokens_of layer.Ids body = []
 tokens_of layer.Life body = []
 
 -- the tokens that the store was given, one after another

@@ -5,7 +5,7 @@ ghost use Rattle.qc_text.specs.OneText.{IsPlainAddress, IsPlainStart};
 ghost use Rattle.qc_conn.specs.Opened.{OnDone, lost_of};
 ghost use Rattle.qc_conn.specs.Seen.{Sends, counted};
 ghost use Rattle.qc_receive.specs.Cutting.{rest_of};
-ghost use Rattle.qc_receive.specs.Events.{LeavesBytes, handed_after, time_of_event};
+ghost use Rattle.qc_receive.specs.Events.{GivesRight, IsExpected, LeavesBytes, handed_after, time_of_event};
 ghost use Rattle.qc_receive.specs.FirstPacket.{IsFirstPacket, first_reason, size_of};
 ghost use Rattle.qc_recovery.specs.Paths.{first_size};
 ghost use Rattle.qc_state.specs.Receiving.{datagram_after, first_packet_after, is_taken};
@@ -19,8 +19,11 @@ ghost use Rattle.qc_state.specs.First.{first_view, server_view, fixed_of};
 ghost use Rattle.qc_state.specs.Life.{is_drained};
 ghost use Rattle.qc_state.specs.Moves.{Ask, Call, state_move};
 ghost use Rattle.qc_state.specs.Polls.{first_endpoint_event, first_event, polled, polled_endpoint};
+ghost use Rattle.qc_cids.specs.Cids.{give_refusal};
+ghost use Rattle.qc_conn.specs.Refusal.{bad_call};
 ghost use Rattle.qc_state.specs.Run.{began, time_of, close_after, IsStep};
 ghost use Rattle.qc_state.specs.Timeouts.{timeout_after};
+ghost use Rattle.qc_laws.specs.IdLaws.{CarriesUsed};
 ghost use Rattle.qc_laws.specs.PostLaws.{HasNewDatagrams};
 ghost use Rattle.qc_laws.specs.ReadLaws.{HasNewStreams};
 ghost use Rattle.qc_laws.specs.StreamLaws.{IsUnread};
@@ -33,7 +36,8 @@ ghost use Rattle.qc_streams.specs.Waits.{ConcurrentSet, ReceiveWindowSet, SendWi
 
 use crate::steps::{core_event, core_first, core_first_packet, core_send, core_step, core_timeout};
 use bytes::{Bytes, BytesMut};
-use qc_base::{Dir, EcnCodepoint, Fault, Instant, Side, SpaceId, VarInt};
+use qc_base::{Dir, EcnCodepoint, Fault, Instant, IssuedCid, Side, SpaceId, VarInt};
+use qc_cids::GiveRefusal;
 use qc_config::TokenStore;
 use qc_core::Core;
 use qc_header::InitialPacket;
@@ -101,7 +105,7 @@ impl<U: Suite> Connection<U> {
     ) -> Result<Connection<U>, AllocError>
         requires fresh { U.Session.is_fresh setup.session }
         requires client { U.Session.side_of setup.session ≡ Side.Client }
-        ensures made { IfOk result (λ c. (ideal U.Random.stream c.core) ≡ first_view ⟦<U as Means>⟧.meaning setup.session (U.Random.stream setup.random) (fixed_of Side.Client setup.version setup.local_cid setup.first_cid setup.local_ip setup.transport setup.grease_quic_bit (U.Random.stream setup.random)) setup.remote setup.first_cid (unwrap_or (G.taken store.old (string_bytes setup.server_name)) []) setup.transport (U.Control.built setup.control now (first_size setup.transport None)) now) }
+        ensures made { IfOk result (λ c. (ideal U.Random.stream c.core) ≡ first_view ⟦<U as Means>⟧.meaning setup.session (U.Random.stream setup.random) (fixed_of Side.Client setup.version setup.local_cid setup.first_cid setup.cid_lifetime false setup.local_ip setup.transport setup.grease_quic_bit (U.Random.stream setup.random)) setup.remote setup.first_cid (unwrap_or (G.taken store.old (string_bytes setup.server_name)) []) setup.transport (U.Control.built setup.control now (first_size setup.transport None)) now) }
         ensures plain { IsPlainAddress setup.remote → IfOk result (λ c. IsPlainStart c.core.waiting c.core.paths c.core.life) }
         ensures told { IfOk result (λ c. OnlyDoneWaits c.core.life) }
         ensures ends { IfOk result (λ c. Ends (ideal U.Random.stream c.core)) }
@@ -111,6 +115,7 @@ impl<U: Suite> Connection<U> {
         ensures unread { IfOk result (λ c. IsUnread (ideal U.Random.stream c.core)) }
         ensures streams { IfOk result (λ c. HasNewStreams (ideal U.Random.stream c.core)) }
         ensures datagrams { IfOk result (λ c. HasNewDatagrams (ideal U.Random.stream c.core)) }
+        ensures ids { IfOk result (λ c. CarriesUsed (ideal U.Random.stream c.core)) }
         ensures alive { IfOk result (λ c. c.failed ≡ false) }
         ensures store { OnOk result (store.new ≡ G.after_take store.old (string_bytes setup.server_name)) }
     {
@@ -135,7 +140,7 @@ impl<U: Suite> Connection<U> {
         now: Instant,
     ) -> Result<Connection<U>, AllocError>
         requires fresh { U.Session.is_fresh setup.session }
-        ensures made { IfOk result (λ c. (ideal U.Random.stream c.core) ≡ server_view ⟦<U as Means>⟧.meaning setup.session (U.Random.stream setup.random) (fixed_of Side.Server setup.version setup.local_cid setup.first_cid setup.local_ip setup.transport setup.grease_quic_bit (U.Random.stream setup.random)) setup.remote setup.remote_cid setup.validated setup.transport (U.Control.built setup.control now (first_size setup.transport None)) now) }
+        ensures made { IfOk result (λ c. (ideal U.Random.stream c.core) ≡ server_view ⟦<U as Means>⟧.meaning setup.session (U.Random.stream setup.random) (fixed_of Side.Server setup.version setup.local_cid setup.first_cid setup.cid_lifetime setup.preferred setup.local_ip setup.transport setup.grease_quic_bit (U.Random.stream setup.random)) setup.remote setup.remote_cid setup.validated setup.transport (U.Control.built setup.control now (first_size setup.transport None)) now) }
         ensures plain { IsPlainAddress setup.remote → IfOk result (λ c. IsPlainStart c.core.waiting c.core.paths c.core.life) }
         ensures told { IfOk result (λ c. OnlyDoneWaits c.core.life) }
         ensures ends { IfOk result (λ c. Ends (ideal U.Random.stream c.core)) }
@@ -145,6 +150,7 @@ impl<U: Suite> Connection<U> {
         ensures unread { IfOk result (λ c. IsUnread (ideal U.Random.stream c.core)) }
         ensures streams { IfOk result (λ c. HasNewStreams (ideal U.Random.stream c.core)) }
         ensures datagrams { IfOk result (λ c. HasNewDatagrams (ideal U.Random.stream c.core)) }
+        ensures ids { IfOk result (λ c. CarriesUsed (ideal U.Random.stream c.core)) }
         ensures alive { IfOk result (λ c. c.failed ≡ false) }
     {
         let core = qc_making::new_server(alloc, setup, now)?;
@@ -209,7 +215,8 @@ impl<U: Suite> Connection<U> {
     /// An endpoint hands over what came: a datagram that it cut with this connection's version, the length of its ids and its
     /// word on the fixed bit, as `PartialDecode::new` gave its first packet and what is behind it: `remaining` is None where
     /// nothing is, and never has no bytes. The datagram does what it does whole at an end that doesn't wait for its first packet.
-    /// So far nothing goes into the store.
+    /// Or it gives ids of this end for the peer to use (RFC 9000, 5.1.1): no more than `NeedIdentifiers` and `RetireConnectionId` asked
+    /// for, with the next sequence numbers, and as long as this end's. So far nothing goes into the store.
     ///
     /// # Errors
     ///
@@ -221,8 +228,9 @@ impl<U: Suite> Connection<U> {
         event: ConnectionEvent,
         store: &mut G,
     ) -> Result<(), Fault>
-        requires heard { is_first_awaited self.old.core.setup ≡ false }
+        requires heard { IsExpected event (is_first_awaited self.old.core.setup) }
         requires some { LeavesBytes event }
+        requires given { GivesRight event self.old.core.lower.ids }
         ensures leads { OnOk result ((ideal U.Random.stream self.new.core) ≡ (handed_after ⟦<U as Means>⟧.meaning event (began (ideal U.Random.stream self.old.core) (time_of_event event))).state) }
         ensures clock { OnOk result (self.new.core.timers.greatest ≡ max self.old.core.timers.greatest (time_of_event event)) }
         ensures alive { OnOk result (self.new.failed ≡ false) }
@@ -303,10 +311,11 @@ impl<U: Suite> Connection<U> {
     /// Timers may have come by `now`: each that has, to that time or an earlier one, does what it is for, in this order. The loss
     /// timer: packets are lost, whose frames wait again, or probes are due (RFC 9002, 6.1.2 and 6.2.4); it is set anew. The idle
     /// timer: the connection ends at once, for `TimedOut`. The close timer: the connection, which closed before, ends. The pacing
-    /// timer: a datagram that was held back may go, by a transmit; so far none is held back, and the timer isn't set. The timer of an
-    /// ACK that was held back: it is owed at last (RFC 9000, 13.2.1). Afterwards none of these four is left that has come; the loss
-    /// timer may stand at a time that has come again, as a probe timeout counts from the last packet that was sent. In a connection
-    /// that had ended nothing happens.
+    /// timer: a datagram that was held back may go, by a transmit; so far none is held back, and the timer isn't set. The timer of this
+    /// end's ids: the peer is asked to retire those that have grown old, and others are wanted in their place (RFC 9000, 5.1.1). The
+    /// timer of an ACK that was held back: it is owed at last (RFC 9000, 13.2.1). Afterwards none of these five is left that has come;
+    /// the loss timer may stand at a time that has come again, as a probe timeout counts from the last packet that was sent. In a
+    /// connection that had ended nothing happens.
     ///
     /// # Errors
     ///
@@ -317,6 +326,7 @@ impl<U: Suite> Connection<U> {
         ensures idle { OnOk result (is_drained self.old.core.life.state ≡ false → has_come self.new.core.timers.idle now ≡ false) }
         ensures close { OnOk result (is_drained self.old.core.life.state ≡ false → has_come self.new.core.timers.close now ≡ false) }
         ensures paced { OnOk result (is_drained self.old.core.life.state ≡ false → has_come self.new.core.timers.pacing now ≡ false) }
+        ensures aged { OnOk result (is_drained self.old.core.life.state ≡ false → has_come self.new.core.timers.push_new_cid now ≡ false) }
         ensures held { OnOk result (is_drained self.old.core.life.state ≡ false → has_come self.new.core.timers.max_ack_delay now ≡ false) }
         ensures clock { OnOk result (self.new.core.timers.greatest ≡ max self.old.core.timers.greatest now) }
         ensures alive { OnOk result (self.new.failed ≡ false) }
@@ -435,7 +445,8 @@ impl<U: Suite> Connection<U> {
 
     /// One input of `drive`: the call, and the reports after it.
     pub(crate) fn call(&mut self, alloc: Global, at: u64, input: &Input) -> Result<Step, Fault>
-        requires { self.old.core.timers.greatest ≤ time_of input.now }
+        requires forward { self.old.core.timers.greatest ≤ time_of input.now }
+        requires good { bad_call (ideal U.Random.stream self.old.core) input.now ≡ None }
         ensures step { IfOk result (λ x. IsStep ⟦<U as Means>⟧.meaning at (ideal U.Random.stream self.old.core) input.now x (ideal U.Random.stream self.new.core)) }
         ensures alive { OnOk result (self.new.failed ≡ false) }
         ensures failed { self.old.failed ≡ true → (result ≡ Err Fault.Failed) × (self.new ≡ self.old) }
@@ -460,6 +471,14 @@ impl<U: Suite> Connection<U> {
         ensures { result ≡ self.now.core.timers.greatest }
     {
         self.core.greatest()
+    }
+
+    /// Why ids may not be given to `handle_event`, if they may not: the first reason that holds, of more than are asked for, a number
+    /// that isn't the next one, and a length that isn't this end's (RFC 9000, 5.1.1).
+    pub fn give_refusal(&self, ids: &[IssuedCid]) -> Option<GiveRefusal>
+        ensures { result ≡ give_refusal ids.now self.now.core.lower.ids }
+    {
+        self.core.lower.ids.give_refusal(ids)
     }
 
     /// This end's side.

@@ -3,7 +3,7 @@
 ghost use Rattle.std.specs.Prelude.{◌≡◌, ◌≢◌, ◌≤◌, ◌<◌, ℕ, List, [], length, true, false, None, OnOk, OnErr, IfOk, IfErr, IsErr};
 ghost use Rattle.std.specs.List.{All};
 ghost use Rattle.qc_text.specs.OneText.{IsPlain, IsPlainStart};
-ghost use Rattle.qc_conn.specs.Refusal.{bad_call, bad_direction, refusal_of, NamesInput, RefusedAt, TakesAll};
+ghost use Rattle.qc_conn.specs.Refusal.{bad_call, bad_direction, bad_ids, refusal_of, NamesInput, RefusedAt, TakesAll};
 ghost use Rattle.qc_conn.specs.Seen.{KeepsCredit, counted};
 ghost use Rattle.qc_base.specs.declared.side.SpaceId.{SpaceId};
 ghost use Rattle.qc_laws.specs.AckLaws.{AckHolds, EachHoldsAck};
@@ -14,9 +14,10 @@ ghost use Rattle.qc_laws.specs.EventLaws.{EachTells, OnlyDoneWaits, TellsOnce, u
 ghost use Rattle.qc_laws.specs.InitialLaws.{LeavesInitial};
 ghost use Rattle.qc_laws.specs.KeyLaws.{KeysHold};
 ghost use Rattle.qc_laws.specs.MarkLaws.{EachTold};
-ghost use Rattle.qc_laws.specs.PathLaws.{IdsHold, PathHolds, all_from};
+ghost use Rattle.qc_laws.specs.IdLaws.{FoldsIds, IdsHold};
+ghost use Rattle.qc_laws.specs.PathLaws.{PathHolds, all_from};
 ghost use Rattle.qc_state.specs.Headline.{deeds_of, EachRises, EachAdmitted, EachAcksKnown, Harmless, LifeRises, OnlyCloses, LosesOnce};
-ghost use Rattle.qc_laws.specs.PostLaws.{FoldsPosts, HasNewDatagrams, TakesTrace};
+ghost use Rattle.qc_laws.specs.PostLaws.{FoldsPosts, HasNewDatagrams, SealsSent, TakesTrace};
 ghost use Rattle.qc_laws.specs.ReadLaws.{HasNewStreams, ReadsTrace};
 ghost use Rattle.qc_laws.specs.WriteLaws.{SealsWritten};
 ghost use Rattle.qc_laws.specs.RecoveryLaws.{EachSettlesOnce, Recovers};
@@ -30,6 +31,7 @@ use crate::connection::Connection;
 use crate::directions::{receives_on, sends_on};
 use crate::steps::time;
 use qc_base::{Instant, StreamId};
+use qc_cids::GiveRefusal;
 use qc_config::TokenStore;
 use qc_state::{Input, Means, Suite, Trace};
 use std::alloc::{AllocError, Global};
@@ -43,6 +45,27 @@ pub enum BadWhy {
     Direction {
         /// The stream.
         id: StreamId,
+    },
+    /// More ids are given than were asked for (RFC 9000, 5.1.1).
+    NotAsked {
+        /// How many were asked for, and not given so far.
+        asked: u64,
+        /// How many are given.
+        given: u64,
+    },
+    /// An id has another sequence number than the next one.
+    Sequence {
+        /// The next one.
+        wanted: u64,
+        /// The id's.
+        given: u64,
+    },
+    /// An id has another length than this end's ids.
+    IdLength {
+        /// How many bytes these have.
+        wanted: usize,
+        /// How many it has.
+        given: usize,
     },
 }
 
@@ -91,6 +114,7 @@ fn add_step<U: Suite>(
 ) -> Result<(), AllocError>
     requires alive { connection.old.failed ≡ false }
     requires forward { connection.old.core.timers.greatest ≤ time_of input.now }
+    requires good { bad_call (ideal U.Random.stream connection.old.core) input.now ≡ None }
     ensures adds { OnOk result (Adds ⟦<U as Means>⟧.meaning at (ideal U.Random.stream connection.old.core) input.now (ideal U.Random.stream connection.new.core) trace.old trace.new) }
     ensures time { OnOk result (connection.new.core.timers.greatest ≡ time_of input.now) }
     ensures alive { OnOk result (connection.new.failed ≡ false) }
@@ -125,6 +149,18 @@ fn bad_direction(allowed: bool, id: StreamId) -> Option<BadWhy>
     }
 }
 
+/// What is wrong with ids that are given, if anything is.
+fn bad_ids(refusal: Option<GiveRefusal>) -> Option<BadWhy>
+    ensures { result ≡ bad_ids refusal }
+{
+    match refusal {
+        None => None,
+        Some(GiveRefusal::NotAsked { asked, given }) => Some(BadWhy::NotAsked { asked, given }),
+        Some(GiveRefusal::Sequence { wanted, given }) => Some(BadWhy::Sequence { wanted, given }),
+        Some(GiveRefusal::IdLength { wanted, given }) => Some(BadWhy::IdLength { wanted, given }),
+    }
+}
+
 /// What is wrong with the call that the input asks for of the connection, if anything is.
 #[tactic(auto, unfolding(qc_state::specs::Setup::ideal_setup))]
 fn bad_call<U: Suite>(connection: &Connection<U>, input: &Input) -> Option<BadWhy>
@@ -143,6 +179,7 @@ fn bad_call<U: Suite>(connection: &Connection<U>, input: &Input) -> Option<BadWh
         Input::ResetSend { id, .. } => bad_direction(sends_on(side, *id), *id),
         Input::StopRecv { id, .. } => bad_direction(receives_on(side, *id), *id),
         Input::Read { id, .. } => bad_direction(receives_on(side, *id), *id),
+        Input::Identifiers { ids, .. } => bad_ids(connection.give_refusal(ids.as_slice())),
         Input::Datagram { .. }
         | Input::Timeout { .. }
         | Input::Open { .. }
@@ -241,7 +278,8 @@ pub fn drive<U: Suite, G: TokenStore>(
     // No packet number is used twice, only packets that were accepted are acknowledged, and ACKs tell how many of them came with
     // each mark of ECN; the life never falls, all that is sent after a close is the close, no key seals more than it may, at most one
     // reason for the end is given, the close timer stands from a close on until no timer does, and no Initial packet is sealed once the
-    // Initial space was left. The path keeps its address, and the peer the id that it chose, which packets to it carry.
+    // Initial space was left. The path keeps its address, and the peer the id that it chose; packets to it carry the one of its ids that
+    // is in use, where they did before.
     ensures rising { IfOk result (λ trace. EachRises (ideal U.Random.stream connection.old.core) trace) }
     ensures rising_part { IfErr result (λ e. EachRises (ideal U.Random.stream connection.old.core) e.done) }
     ensures admitted { IfOk result (λ trace. EachAdmitted (ideal U.Random.stream connection.old.core) trace) }
@@ -255,7 +293,7 @@ pub fn drive<U: Suite, G: TokenStore>(
     ensures closing { IfOk result (λ trace. OnlyCloses (ideal U.Random.stream connection.old.core) trace) }
     ensures closing_part { IfErr result (λ e. OnlyCloses (ideal U.Random.stream connection.old.core) e.done) }
     ensures paths { IfOk result (λ trace. PathHolds (all_from connection.old.core.paths.current.remote inputs.now) (deeds_of trace) connection.old.core.paths.current connection.new.core.paths.current) }
-    ensures ids { OnOk result (IdsHold connection.old.core.paths connection.new.core.paths) }
+    ensures ids { OnOk result (IdsHold (ideal U.Random.stream connection.old.core) (ideal U.Random.stream connection.new.core)) }
     ensures keys { KeysHold connection.old.core.keys → OnOk result (KeysHold connection.new.core.keys) }
     ensures ends { Ends (ideal U.Random.stream connection.old.core) → OnOk result (Ends (ideal U.Random.stream connection.new.core)) }
     ensures initial { IfOk result (λ trace. LeavesInitial (deeds_of trace) (ideal U.Random.stream connection.old.core) (ideal U.Random.stream connection.new.core)) }
@@ -292,10 +330,16 @@ pub fn drive<U: Suite, G: TokenStore>(
     ensures written { HasNewStreams (ideal U.Random.stream connection.old.core) → IfOk result (λ trace. SealsWritten inputs.now trace) }
     ensures credit { OnOk result (KeepsCredit connection.old.core.lower.streams connection.new.core.lower.streams) }
 
-    // So are its datagrams what their own steps leave, those of the frames that came and of the inputs that send or take one, which answer so;
-    // and where they were new, those that are taken are some of those that came, in order, each once.
+    // So are its datagrams what their own steps leave, those of the frames that came and were sealed and of the inputs that send or take one,
+    // which answer so; and where they were new, those that are taken are some of those that came, and those that are sealed some of those
+    // that were sent, in order, each once.
     ensures posts { IfOk result (λ trace. FoldsPosts inputs.now trace (ideal U.Random.stream connection.old.core) (ideal U.Random.stream connection.new.core)) }
     ensures taken { HasNewDatagrams (ideal U.Random.stream connection.old.core) → IfOk result (λ trace. TakesTrace inputs.now trace) }
+    ensures sent { HasNewDatagrams (ideal U.Random.stream connection.old.core) → IfOk result (λ trace. SealsSent inputs.now trace) }
+
+    // And so are the connection ids of both ends: those steps of frames that come are the ones of the frames that were given to them, those
+    // with which ids are given the inputs', and those with which frames are sealed the ones of the packets that are sealed.
+    ensures identifiers { IfOk result (λ trace. FoldsIds inputs.now trace (ideal U.Random.stream connection.old.core) (ideal U.Random.stream connection.new.core)) }
 
     // An ACK of 1-RTT packets is held back for 25 ms at most, or until an ACK is sealed.
     ensures held { AckHolds (ideal U.Random.stream connection.old.core) → IfOk result (λ trace. EachHoldsAck ⟦<U as Means>⟧.meaning 0 (ideal U.Random.stream connection.old.core) inputs.now trace (ideal U.Random.stream connection.new.core)) }

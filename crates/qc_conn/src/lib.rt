@@ -14,9 +14,10 @@ pub use laws::text_tells_run;
 // What the calls name, with all that stands in it.
 pub use bytes::{Bytes, BytesMut};
 pub use qc_base::{
-    ConnectionId, Dir, Duration, EcnCodepoint, Fault, Instant, PacketNumber, ResetToken, Side,
-    SpaceId, StreamId, TransportError, TransportErrorCode, VarInt,
+    ConnectionId, Dir, Duration, EcnCodepoint, Fault, Instant, IssuedCid, PacketNumber, ResetToken,
+    Side, SpaceId, StreamId, TransportError, TransportErrorCode, VarInt,
 };
+pub use qc_cids::GiveRefusal;
 pub use qc_config::TokenStore;
 pub use qc_core::Core;
 pub use qc_crypto::Session;
@@ -28,7 +29,7 @@ pub use qc_receive::ConnectionEvent;
 pub use qc_recovery::TransportConfig;
 pub use qc_state::{
     Answer, ApplicationClose, Body, ConnectionClose, ConnectionError, Did, Dids, EndpointEvent,
-    EndpointEvents, Event, Events, Input, Layer, Means, Quiet, Refusal, Step, Suite, Trace,
+    EndpointEvents, Event, Events, IdList, Input, Layer, Means, Quiet, Refusal, Step, Suite, Trace,
     Transmit, Verdict, Word, negotiate_max_idle_timeout,
 };
 pub use qc_streams::StreamEvent;

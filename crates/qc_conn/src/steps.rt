@@ -1,10 +1,13 @@
 //! One input of a driven connection: its call, and the reports after it.
 
-ghost use Rattle.std.specs.Prelude.{◌≡◌, ◌<◌, ◌≤◌, ◌++◌, [], true, false, length, OnOk, IfOk, IfSome, option_to_list};
+ghost use Rattle.std.specs.Prelude.{◌≡◌, ◌<◌, ◌≤◌, ◌++◌, [], true, false, length, OnOk, IfOk, IfSome, None, option_to_list};
+ghost use Rattle.qc_state.specs.declared.input.Input.TheVariants as input;
+ghost use Rattle.qc_cids.specs.Cids.{give_refusal};
+ghost use Rattle.qc_conn.specs.Refusal.{bad_call};
 ghost use Rattle.qc_conn.specs.Seen.{Sends};
 ghost use Rattle.qc_laws.specs.StreamsLaws.{is_streams_call};
 ghost use Rattle.qc_receive.specs.Cutting.{rest_of};
-ghost use Rattle.qc_receive.specs.Events.{LeavesBytes, handed_after, time_of_event};
+ghost use Rattle.qc_receive.specs.Events.{GivesRight, LeavesBytes, handed_after, time_of_event};
 ghost use Rattle.qc_receive.specs.FirstPacket.{first_reason, size_of};
 ghost use Rattle.qc_state.specs.Life.{is_drained};
 ghost use Rattle.qc_state.specs.Moves.{ReportReady, ReportConnected, ReportAllHeard, ReportStreams, ReportLost, ReportNotices, ReportDrained, state_move};
@@ -23,8 +26,8 @@ use qc_header::InitialPacket;
 use qc_receive::{ConnectionEvent, datagram, first_datagram, first_packet};
 use qc_send::transmit;
 use qc_state::{
-    Answer, Body, Coming, ConnectionError, Dids, EndpointEvents, Event, Events, Input, Means, Step,
-    Suite, Transmit, Word,
+    Answer, Body, Coming, ConnectionError, Dids, EndpointEvents, Event, Events, IdList, Input,
+    Means, Step, Suite, Transmit, Word,
 };
 use std::alloc::{AllocError, Global};
 use std::net::SocketAddr;
@@ -84,7 +87,8 @@ pub(crate) fn core_event<U: Suite>(
     alloc: Global,
     event: ConnectionEvent,
 ) -> Result<(), AllocError>
-    requires { LeavesBytes event }
+    requires some { LeavesBytes event }
+    requires given { GivesRight event core.old.lower.ids }
     ensures { OnOk result ((ideal U.Random.stream core.new) ≡ (handed_after ⟦<U as Means>⟧.meaning event (began (ideal U.Random.stream core.old) (time_of_event event))).state) }
 {
     let mut did = Dids::new(alloc);
@@ -103,6 +107,11 @@ pub(crate) fn core_event<U: Suite>(
             };
             core.clock(now);
             qc_receive::event(core, alloc, &mut did, &coming, first_decode, remaining)?;
+            Ok(())
+        }
+        ConnectionEvent::NewIdentifiers { ids, now } => {
+            core.clock(now);
+            core.issue(now, ids.as_slice())?;
             Ok(())
         }
     }
@@ -138,6 +147,7 @@ pub(crate) fn core_timeout<U: Suite>(
     ensures idle { OnOk result (is_drained core.old.life.state ≡ false → has_come core.new.timers.idle now ≡ false) }
     ensures close { OnOk result (is_drained core.old.life.state ≡ false → has_come core.new.timers.close now ≡ false) }
     ensures paced { OnOk result (is_drained core.old.life.state ≡ false → has_come core.new.timers.pacing now ≡ false) }
+    ensures aged { OnOk result (is_drained core.old.life.state ≡ false → has_come core.new.timers.push_new_cid now ≡ false) }
     ensures held { OnOk result (is_drained core.old.life.state ≡ false → has_come core.new.timers.max_ack_delay now ≡ false) }
 {
     let mut did = Dids::new(alloc);
@@ -297,14 +307,33 @@ fn stream_call<U: Suite>(
     Ok(answer)
 }
 
+/// Ids of this end are given. Want of memory is the only refusal.
+#[tactic(auto, using(crate::proofs::Firsts::still_given, qc_laws::proofs::Steps::calls_issue))]
+fn issue_call<U: Suite>(
+    core: &mut Core<U>,
+    now: Instant,
+    ids: &IdList,
+    did: &Dids,
+) -> Result<Answer, AllocError>
+    requires good { give_refusal ids.now core.old.lower.ids ≡ None }
+    requires none { did.now ≡ [] }
+    ensures { IfOk result (λ answer. Calls ⟦<U as Means>⟧.meaning (ideal U.Random.stream core.old) (input.Identifiers now ids.now) (held U.Random.stream core.new did.now) answer) }
+{
+    core.clock(now);
+    core.issue(now, ids.as_slice())?;
+    Ok(Answer::Done)
+}
+
 /// The call that an input is for.
+#[tactic(auto, using(crate::proofs::Refusals::ids_good))]
 fn call<U: Suite>(
     core: &mut Core<U>,
     alloc: Global,
     input: &Input,
     did: &mut Dids,
 ) -> Result<Answer, AllocError>
-    requires { did.old ≡ [] }
+    requires none { did.old ≡ [] }
+    requires good { bad_call (ideal U.Random.stream core.old) input.now ≡ None }
     ensures { IfOk result (λ answer. Calls ⟦<U as Means>⟧.meaning (ideal U.Random.stream core.old) input.now (held U.Random.stream core.new did.new) answer) }
 {
     match input {
@@ -336,6 +365,7 @@ fn call<U: Suite>(
         | Input::MaxStreams { .. }
         | Input::SendWindow { .. }
         | Input::ReceiveWindow { .. } => stream_call(core, alloc, input, did),
+        Input::Identifiers { now, ids } => issue_call(core, *now, ids, did),
     }
 }
 
@@ -419,6 +449,7 @@ fn word(input: &Input) -> Word
         Input::MaxStreams { .. } => Word::MaxStreams,
         Input::SendWindow { .. } => Word::SendWindow,
         Input::ReceiveWindow { .. } => Word::ReceiveWindow,
+        Input::Identifiers { .. } => Word::Identifiers,
     }
 }
 
@@ -444,6 +475,7 @@ pub(crate) fn time(input: &Input) -> Instant
         Input::MaxStreams { now, .. } => *now,
         Input::SendWindow { now, .. } => *now,
         Input::ReceiveWindow { now, .. } => *now,
+        Input::Identifiers { now, .. } => *now,
     }
 }
 
@@ -455,7 +487,8 @@ pub(crate) fn core_step<U: Suite>(
     at: u64,
     input: &Input,
 ) -> Result<Step, AllocError>
-    requires { core.old.timers.greatest ≤ time_of input.now }
+    requires forward { core.old.timers.greatest ≤ time_of input.now }
+    requires good { bad_call (ideal U.Random.stream core.old) input.now ≡ None }
     ensures { IfOk result (λ x. IsStep ⟦<U as Means>⟧.meaning at (ideal U.Random.stream core.old) input.now x (ideal U.Random.stream core.new)) }
 {
     let mut did = Dids::new(alloc);

@@ -1,6 +1,6 @@
 //! The text of the steps before an input that was refused. That of a whole trace is `qc_text`'s.
 
-ghost use Rattle.std.specs.Prelude.{◌≡◌, ◌++◌, IfOk, OnOk};
+ghost use Rattle.std.specs.Prelude.{◌≡◌, ◌++◌, codes, decimal, IfOk, OnOk};
 ghost use Rattle.qc_conn.specs.RefusedText.{why_text, refusal_line, refused_text};
 
 use crate::driving::{BadWhy, DriveError, DriveKind};
@@ -64,6 +64,15 @@ fn put_bad_call(out: &mut Vec<u8>, at: u64, why: BadWhy) -> Result<(), AllocErro
     out.extend_from_slice(b"\n")
 }
 
+/// Two numbers.
+fn put_two(out: &mut Vec<u8>, first: u64, second: u64) -> Result<(), AllocError>
+    ensures { OnOk result (out.new.items ≡ out.old.items ++ decimal first ++ codes " " ++ decimal second) }
+{
+    put_number(out, first)?;
+    out.extend_from_slice(b" ")?;
+    put_number(out, second)
+}
+
 #[tactic(auto, unfolding(crate::specs::RefusedText::why_text))]
 fn put_why(out: &mut Vec<u8>, why: BadWhy) -> Result<(), AllocError>
     ensures { OnOk result (out.new.items ≡ out.old.items ++ why_text why) }
@@ -73,6 +82,18 @@ fn put_why(out: &mut Vec<u8>, why: BadWhy) -> Result<(), AllocError>
         BadWhy::Direction { id } => {
             out.extend_from_slice(b"direction ")?;
             put_number(out, id.value())
+        }
+        BadWhy::NotAsked { asked, given } => {
+            out.extend_from_slice(b"not asked ")?;
+            put_two(out, asked, given)
+        }
+        BadWhy::Sequence { wanted, given } => {
+            out.extend_from_slice(b"sequence ")?;
+            put_two(out, wanted, given)
+        }
+        BadWhy::IdLength { wanted, given } => {
+            out.extend_from_slice(b"id length ")?;
+            put_two(out, wanted as u64, given as u64)
         }
     }
 }

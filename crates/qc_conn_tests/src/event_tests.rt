@@ -1,15 +1,14 @@
-//! What an endpoint read already: a datagram that it cut, and a server's first packet that it opened.
+//! What an endpoint hands over: a datagram that it cut already, ids, and a server's first packet that it opened.
 
-ghost use Rattle.std.specs.Prelude.{◌≡◌, ◌<◌, true, length, IfSome};
+ghost use Rattle.std.specs.Prelude.{◌≡◌, ◌<◌, false, true, length, IfSome};
 ghost use Rattle.qc_receive.specs.Cutting.{rest_of};
-ghost use Rattle.qc_receive.specs.Events.{LeavesBytes};
 ghost use Rattle.qc_receive.specs.FirstPacket.{IsFirstPacket};
 ghost use Rattle.qc_state.specs.Life.{is_handshake};
 ghost use Rattle.qc_state.specs.Setup.{is_first_awaited};
 
 use crate::clients::{Toy, client_at, fresh_client};
 use bytes::BytesMut;
-use qc_base::{ConnectionId, Instant};
+use qc_base::{ConnectionId, Instant, IssuedCid, ResetToken};
 use qc_config::{NoneTokenStore, announced};
 use qc_conn::{Connection, ConnectionEvent, ServerSetup};
 use qc_crypto::{ServerConfig, Session};
@@ -18,7 +17,7 @@ use qc_packet::{OpenKeys, decrypt_packet_body, unprotect_header};
 use qc_path::NewRenoConfig;
 use qc_recovery::TransportConfig;
 use qc_state::paths::same_address;
-use qc_state::{ConnectionError, Event};
+use qc_state::{ConnectionError, Event, IdList};
 use qc_toy::{ToyServer, ToySession, ToySettings, ZeroRandom};
 use std::alloc::Global;
 use std::default::Default;
@@ -43,19 +42,38 @@ fn cut(alloc: Global, bytes: &[u8]) -> Option<(PartialDecode, Option<BytesMut>)>
     PartialDecode::new(bytes, 8, &[1], true).ok()
 }
 
-/// The same as an event at 1.
-fn event(alloc: Global, bytes: &[u8]) -> Option<ConnectionEvent>
-    ensures { IfSome result LeavesBytes }
+/// A client is handed a datagram at 1: whether it took it.
+fn hears(alloc: Global, client: &mut Connection<Toy>, bytes: &[u8]) -> bool
+    requires { is_first_awaited client.old.core.setup ≡ false }
 {
-    match cut(alloc, bytes) {
-        None => None,
-        Some((first_decode, remaining)) => Some(ConnectionEvent::Datagram {
-            now: Instant::from_nanos(1),
-            remote: address(),
-            ecn: None,
-            first_decode,
-            remaining,
-        }),
+    let Some((first_decode, remaining)) = cut(alloc, bytes) else {
+        return false;
+    };
+    let event = ConnectionEvent::Datagram {
+        now: Instant::from_nanos(1),
+        remote: address(),
+        ecn: None,
+        first_decode,
+        remaining,
+    };
+    client
+        .handle_event(alloc, event, &mut NoneTokenStore)
+        .is_ok()
+}
+
+/// It is handed ids of its own at 1: whether it took them.
+fn is_given(alloc: Global, client: &mut Connection<Toy>, ids: IdList) -> bool {
+    match client.give_refusal(ids.as_slice()) {
+        None => {
+            let event = ConnectionEvent::NewIdentifiers {
+                ids,
+                now: Instant::from_nanos(1),
+            };
+            client
+                .handle_event(alloc, event, &mut NoneTokenStore)
+                .is_ok()
+        }
+        Some(_) => false,
     }
 }
 
@@ -76,10 +94,25 @@ fn closed_code(client: &mut Connection<Toy>) -> Option<u64> {
 #[test]
 fn a_datagram_that_was_cut_is_heard(rt: HostRuntime) -> Result<(), Fail> {
     let mut client = fresh_client(rt.alloc()).ok_or("no client")?;
-    let event = event(rt.alloc(), &PING_AND_CLOSE).ok_or("no event")?;
-    let heard = client.handle_event(rt.alloc(), event, &mut NoneTokenStore);
-    assert!(rt; heard.is_ok());
+    let heard = hears(rt.alloc(), &mut client, &PING_AND_CLOSE);
+    assert!(rt; heard);
     assert_eq!(rt; closed_code(&mut client), Some(5));
+    Ok(())
+}
+
+// None are asked for before the peer's parameters came: no ids may be given then, and one id may not.
+#[test]
+fn ids_are_taken_as_they_may_be(rt: HostRuntime) -> Result<(), Fail> {
+    let mut client = fresh_client(rt.alloc()).ok_or("no client")?;
+    let none = IdList::from_slice(rt.alloc(), &[])?;
+    assert!(rt; is_given(rt.alloc(), &mut client, none));
+    let one = IssuedCid {
+        sequence: 1,
+        id: ConnectionId::new(&[4; 8]),
+        reset_token: ResetToken::from([5; 16]),
+    };
+    let ids = IdList::from_slice(rt.alloc(), &[one])?;
+    assert!(rt; !is_given(rt.alloc(), &mut client, ids));
     Ok(())
 }
 

@@ -11,7 +11,7 @@ use Rattle.qc_state.specs.Life.{reason_given}
 use Rattle.qc_state.specs.Moves.{Give, deeds_move, keys_move, life_move, lower_move, move_to, numbers_move, paths_move, setup_move, state_move, timers_move, waiting_move}
 use Rattle.qc_state.specs.Stopping.{given_after}
 use Rattle.qc_state.specs.Types.{Types}
-use Rattle.qc_state.specs.View.{At, Held, held}
+use Rattle.qc_state.specs.View.{Held, held}
 
 module _ {t : Types} {R : Type 0} (stream : R → Stream) where
   -- where none was given before, and where one was

@@ -1,6 +1,7 @@
 pub mod Acknowledges
 pub mod EndpointPolls
 pub mod Expiring
+pub mod NumberLengths
 pub mod Skips
 pub mod StreamCalls
 pub mod DatagramCalls

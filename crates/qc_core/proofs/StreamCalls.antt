@@ -1,16 +1,16 @@
 -- The application's calls on the streams are moves of the connection, one a step of theirs; and the reason of the end is told behind their
 -- events.
-use Rattle.std.proofs.Common.{◌≡◌, ℕ, List, [], ◌∷◌, refl, ap, sym, ◌∙◌, subst, Bool, true, false, Option, None, Some, Result, Err, if◌then◌else◌}
+use Rattle.std.proofs.Common.{◌≡◌, ℕ, List, [], ◌∷◌, refl, ap, sym, ◌∙◌, subst, true, Option, None, Result, Err}
 use Rattle.rand_core.specs.Stream.{Stream}
 use Rattle.qc_recv.specs.declared.recv.Chunk.{Chunk}
 use Rattle.qc_state.specs.declared.events.Event.{Event}
 use Rattle.qc_state.specs.declared.input.Input.{Input}
 use Rattle.qc_state.specs.declared.input.Input.TheVariants as input
 use Rattle.qc_state.specs.declared.trace.Answer.{Answer}
-use Rattle.qc_state.specs.Life.{connected_event, lost_event, ready_event}
+use Rattle.qc_state.specs.Life.{lost_event}
 use Rattle.qc_state.specs.Lower.{streams_stepped}
 use Rattle.qc_state.specs.Moves.{Call, ReportStream, deeds_move, keys_move, life_move, lower_move, move_to, numbers_move, paths_move, setup_move, state_move, timers_move, waiting_move}
-use Rattle.qc_state.specs.Polls.{first_event, stream_first}
+use Rattle.qc_state.specs.Polls.{stream_first}
 use Rattle.qc_state.specs.Run.{called_all}
 use Rattle.qc_state.specs.Streams.{MayRead, call_answer, calls_of, had_memory, read_answer}
 use Rattle.qc_state.specs.Types.{Types}

@@ -1,8 +1,9 @@
 //! The calls of a connection.
 
-ghost use Rattle.std.specs.Prelude.{◌≡◌, ◌<◌, ◌^◌, ◌≤◌, ◌++◌, [], length, is_some, map, OnOk, IfOk};
+ghost use Rattle.std.specs.Prelude.{◌≡◌, ◌<◌, ◌^◌, ◌≤◌, ◌++◌, [], length, is_some, map, OnOk, IfOk, None};
+ghost use Rattle.qc_cids.specs.Cids.{give_refusal};
 ghost use Rattle.qc_state.specs.Life.{is_open, ready_event, connected_event, lost_event, drained_event};
-ghost use Rattle.qc_state.specs.Moves.{Clock, Ask, ReportReady, ReportConnected, ReportStreams, ReportLost, ReportNotices, ReportDrained, move_to, state_move};
+ghost use Rattle.qc_state.specs.Moves.{Clock, Ask, Issue, ReportReady, ReportConnected, ReportStreams, ReportLost, ReportNotices, ReportDrained, move_to, state_move};
 ghost use Rattle.qc_state.specs.Polls.{first_endpoint_event, first_event, heard_first, heard_polled, polled, polled_endpoint, stream_first, stream_polled};
 ghost use Rattle.qc_state.specs.Run.{close_after};
 ghost use Rattle.qc_state.specs.Streams.{events_of};
@@ -12,7 +13,7 @@ ghost use Rattle.qc_streams.specs.Owed.{next_event};
 
 use crate::state::Core;
 use bytes::Bytes;
-use qc_base::{Instant, VarInt};
+use qc_base::{Instant, IssuedCid, VarInt};
 use qc_state::{ApplicationClose, Close, EndpointEvent, EndpointEvents, Event, Events, Suite};
 use std::alloc::{AllocError, Global};
 
@@ -39,6 +40,14 @@ impl<U: Suite> Core<U> {
             return true;
         }
         false
+    }
+
+    /// Ids of this end are given (RFC 9000, 5.1.1). Want of memory is the only refusal.
+    pub fn issue(&mut self, now: Instant, given: &[IssuedCid]) -> Result<(), AllocError>
+        requires { give_refusal given.now self.old.lower.ids ≡ None }
+        ensures { OnOk result ((ideal U.Random.stream self.new) ≡ state_move (Issue now given.now) (ideal U.Random.stream self.old)) }
+    {
+        self.do_issue(now, given)
     }
 
     /// The connection is told a time.

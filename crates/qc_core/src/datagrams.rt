@@ -81,7 +81,7 @@ fn frame_size(peer: &Option<TransportParameters>) -> Option<u64>
 
 impl<U: Suite> Core<U> {
     /// How many bytes a datagram of the application may have. None exactly where the peer takes none, or its parameters aren't known.
-    #[tactic(auto, unfolding(qc_state::specs::Run::datagram_limit, qc_state::specs::Sending::path_size, qc_state::specs::Setup::ideal_setup))]
+    #[tactic(auto, unfolding(qc_state::specs::Run::datagram_limit, qc_state::specs::Offers::path_size, qc_state::specs::Setup::ideal_setup))]
     pub fn datagram_limit(&self) -> Option<u64>
         ensures { result ≡ datagram_limit (ideal U.Random.stream self.now) }
     {

@@ -4,6 +4,7 @@
 mod calls;
 mod datagrams;
 mod handing;
+mod identifying;
 mod moves;
 mod offers;
 mod packets;

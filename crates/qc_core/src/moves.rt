@@ -26,6 +26,8 @@ ghost use Rattle.qc_streams.specs.Steps.{AllMay};
 ghost use Rattle.qc_datagrams.specs.Datagrams.{send_refusal};
 ghost use Rattle.qc_datagrams.specs.Queue.{first};
 ghost use Rattle.qc_datagrams.specs.Steps.{Sent, Taken};
+ghost use Rattle.qc_state.specs.Datagrams.{AllOldest};
+ghost use Rattle.qc_state.specs.Ids.{AllNext};
 ghost use Rattle.qc_state.specs.View.{at, ideal, held};
 ghost use Rattle.qc_state.specs.Taking.{TakenPart};
 
@@ -47,7 +49,7 @@ use qc_state::stream_settling::{fire, settle};
 use qc_state::waiting::holds_ack;
 use qc_state::{
     Body, Close, Did, Dids, EndpointEvent, EndpointEvents, Event, Events, Form, Layer, Means,
-    Quiet, Signs, State, Suite, Verdict,
+    Quiet, Signs, State, Suite, Verdict, id_settling,
 };
 use qc_streams::StreamEvent;
 use std::alloc::{AllocError, Global};
@@ -62,7 +64,7 @@ fn tells_congestion(mark: Option<EcnCodepoint>) -> bool
     }
 }
 
-#[tactic(auto, unfolding(qc_state::specs::Moves::move_to, qc_state::specs::Moves::state_move, qc_state::specs::Moves::numbers_move, qc_state::specs::Moves::keys_move, qc_state::specs::Moves::life_move, qc_state::specs::Moves::paths_move, qc_state::specs::Moves::timers_move, qc_state::specs::Moves::waiting_move, qc_state::specs::Moves::setup_move, qc_state::specs::Moves::lower_move, qc_state::specs::Moves::deeds_move, qc_state::specs::Setup::ideal_setup, qc_state::specs::Setup::idle_limit_now, qc_state::specs::Setup::parameters_known, qc_state::specs::Setup::token_expected, qc_state::specs::Lower::session_wrote, qc_state::specs::Lower::datagrams_stepped, qc_state::specs::Lower::streams_stepped, qc_state::specs::Life::datagram_heard, qc_datagrams::specs::Steps::after, qc_datagrams::specs::Steps::after_step, qc_state::specs::Paths::path_kept, crate::specs::Sealing::sealed_drawn))]
+#[tactic(auto, unfolding(qc_state::specs::Moves::move_to, qc_state::specs::Moves::state_move, qc_state::specs::Moves::numbers_move, qc_state::specs::Moves::keys_move, qc_state::specs::Moves::life_move, qc_state::specs::Moves::paths_move, qc_state::specs::Moves::timers_move, qc_state::specs::Moves::waiting_move, qc_state::specs::Moves::setup_move, qc_state::specs::Moves::lower_move, qc_state::specs::Moves::deeds_move, qc_state::specs::Setup::ideal_setup, qc_state::specs::Setup::idle_limit_now, qc_state::specs::Setup::parameters_known, qc_state::specs::Setup::token_expected, qc_state::specs::Lower::session_wrote, qc_state::specs::Lower::datagrams_stepped, qc_state::specs::Lower::streams_stepped, qc_state::specs::Lower::ids_stepped, qc_state::specs::Life::datagram_heard, qc_datagrams::specs::Steps::after, qc_datagrams::specs::Steps::after_step, qc_cids::specs::Steps::after, qc_state::specs::Paths::path_kept, crate::specs::Sealing::sealed_drawn))]
 impl<U: Suite> Core<U> {
     /// The connection is told a time.
     pub fn do_clock(&mut self, now: Instant)
@@ -88,10 +90,11 @@ impl<U: Suite> Core<U> {
     ) -> Result<FrameList, AllocError>
         ensures frames { IfOk result (λ frames. TakenPart now self.old.waiting.bundled (is_space space «Data») (space_of self.old.waiting.spaces space) room frames) }
         ensures may { IfOk result (λ frames. AllMay (sealed_steps frames) self.old.lower.streams) }
+        ensures oldest { IfOk result (λ frames. AllOldest frames self.old.lower.datagrams) }
+        ensures next { IfOk result (λ frames. AllNext frames self.old.lower.ids) }
         ensures leads { IfOk result (λ frames. (ideal U.Random.stream self.new) ≡ state_move (Take space frames) (ideal U.Random.stream self.old)) }
     {
-        let streams = &mut self.lower.streams;
-        self.waiting.take(streams, alloc, now, space, room)
+        self.waiting.take(&mut self.lower, alloc, now, space, room)
     }
 
     /// The ACK leaves what waits, where there is something to acknowledge and so much room for it.
@@ -271,6 +274,7 @@ impl<U: Suite> Core<U> {
         ensures { (ideal U.Random.stream self.new) ≡ state_move (Fix cid) (ideal U.Random.stream self.old) }
     {
         self.paths.fix(cid);
+        self.lower.ids.rename(cid);
     }
 
     /// So many bytes came from the path's address.
@@ -301,6 +305,7 @@ impl<U: Suite> Core<U> {
             .lower
             .settle(alloc, now, space, next, began, ack, &around, path)?;
         settle(&mut self.lower.streams, &settled)?;
+        id_settling::settle(&mut self.lower.ids, &settled)?;
         settle_in(
             &mut self.numbers,
             &mut self.waiting,
@@ -318,6 +323,7 @@ impl<U: Suite> Core<U> {
         let around = self.around(blocked, false);
         let fired = self.lower.fire(now, &around, &mut self.paths.current.kept)?;
         fire(&mut self.lower.streams, &fired)?;
+        id_settling::fire(&mut self.lower.ids, &fired)?;
         self.waiting.fire(fired)
     }
 
@@ -372,6 +378,7 @@ impl<U: Suite> Core<U> {
     pub fn do_want(&mut self, now: Instant, count: u64) -> Result<(), AllocError>
         ensures { OnOk result ((ideal U.Random.stream self.new) ≡ state_move (Want now count) (ideal U.Random.stream self.old)) }
     {
+        self.lower.ids.ask(count);
         self.life.want(now, count)
     }
 
@@ -380,6 +387,7 @@ impl<U: Suite> Core<U> {
         ensures { (ideal U.Random.stream self.new) ≡ state_move (Learn parameters) (ideal U.Random.stream self.old) }
     {
         self.lower.learn_limits(&parameters);
+        self.paths.name(self.lower.ids.remote.active());
         self.setup.learn(parameters);
     }
 

@@ -1,18 +1,34 @@
 //! What waits to be sealed in a space, over all layers, and what a packet that is begun makes wait.
 
-ghost use Rattle.std.specs.Prelude.{◌≡◌, ◌&&◌, not, OnOk};
+ghost use Rattle.std.specs.Prelude.{◌≡◌, ◌&&◌, ◌||◌, ◌≤◌, not, OnOk};
+ghost use Rattle.qc_base.specs.PacketNumber.{number_len, number_of};
 ghost use Rattle.qc_state.specs.Acks.{is_ack_owed};
+ghost use Rattle.qc_state.specs.Ids.{ids_want};
 ghost use Rattle.qc_state.specs.Moves.{Begin, state_move};
-ghost use Rattle.qc_state.specs.Offers.{oldest_in, packet_again, probe_begun, probe_sent, streams_filed, streams_want, waits_in, wants_sending, with_ping};
+ghost use Rattle.qc_state.specs.Offers.{datagram_room, datagram_waits, oldest_in, packet_again, probe_begun, probe_sent, streams_filed, streams_want, waits_in, wants_sending, with_ping};
 ghost use Rattle.qc_state.specs.Spaces.{space_of};
 ghost use Rattle.qc_state.specs.View.{ideal};
 
 use crate::state::Core;
 use qc_base::SpaceId;
-use qc_state::Suite;
+use qc_cids::ConnectionIds;
+use qc_state::datagrams::first_fits;
+use qc_state::id_settling::frames_lost;
 use qc_state::stream_settling::{file, packet_lost};
+use qc_state::{DATAGRAM_SIZE, Suite};
 use qc_streams::StreamsState;
 use std::alloc::AllocError;
+
+/// Whether a frame about connection ids waits in the space: they go in packets of 1-RTT alone.
+#[tactic(auto, unfolding(qc_state::specs::Ids::ids_want))]
+fn ids_want(ids: &ConnectionIds, space: SpaceId) -> bool
+    ensures { result ≡ ids_want space ids.now }
+{
+    match space {
+        SpaceId::Initial | SpaceId::Handshake => false,
+        SpaceId::Data => ids.next_told().is_some() || ids.next_retired().is_some(),
+    }
+}
 
 /// Whether the streams want to send in the space: their frames go in packets of 1-RTT alone.
 fn streams_want(streams: &StreamsState, space: SpaceId) -> bool
@@ -24,35 +40,81 @@ fn streams_want(streams: &StreamsState, space: SpaceId) -> bool
     }
 }
 
+/// The size of a packet's tag, in bytes (RFC 9001, 5.3).
+const TAG: usize = 16;
+
+/// How many bytes a packet number has, where the peer acknowledged `acked` (RFC 9000, 17.1).
+#[tactic(auto, using(crate::proofs::NumberLengths::one_byte, crate::proofs::NumberLengths::two_bytes, crate::proofs::NumberLengths::three_bytes, crate::proofs::NumberLengths::four_bytes))]
+fn number_len(number: u64, acked: u64) -> usize
+    ensures value { result ≡ number_len (number_of number acked) }
+    ensures most { result ≤ 4 }
+{
+    let apart = number.saturating_sub(acked);
+    if apart < 0x80 {
+        1
+    } else if apart < 0x8000 {
+        2
+    } else if apart < 0x80_0000 {
+        3
+    } else {
+        4
+    }
+}
+
 impl<U: Suite> Core<U> {
-    /// Whether a frame waits in the space that elicits an acknowledgement.
+    /// How much room for frames a datagram of the path has, behind the header of a 1-RTT packet with the number that comes next, and before
+    /// its tag.
+    #[tactic(auto, unfolding(qc_state::specs::Offers::datagram_room, qc_state::specs::Setup::ideal_setup))]
+    fn datagram_room(&self) -> usize
+        ensures { result ≡ datagram_room (ideal U.Random.stream self.now) }
+    {
+        let number = self.numbers.coming(SpaceId::Data);
+        let acked = self.numbers.acked_number(SpaceId::Data);
+        let header = 1 + self.paths.current.remote_cid.len() + number_len(number, acked);
+        (DATAGRAM_SIZE as usize - TAG).saturating_sub(header)
+    }
+
+    /// Whether a DATAGRAM waits in the space: the first one fits alone into a datagram of the path.
+    #[tactic(auto, unfolding(qc_state::specs::Offers::datagram_waits))]
+    fn datagram_waits(&self, space: SpaceId) -> bool
+        ensures { result ≡ datagram_waits space (ideal U.Random.stream self.now) }
+    {
+        match space {
+            SpaceId::Initial | SpaceId::Handshake => false,
+            SpaceId::Data => first_fits(&self.lower.datagrams, self.datagram_room()),
+        }
+    }
+
+    /// Whether a frame waits in the space that elicits an acknowledgement, DATAGRAMs aside.
     #[tactic(auto, unfolding(qc_state::specs::Offers::wants_sending))]
     fn wants_sending(&self, space: SpaceId) -> bool
         ensures { result ≡ wants_sending (ideal U.Random.stream self.now) space }
     {
-        self.waiting.wants(space) || streams_want(&self.lower.streams, space)
+        self.waiting.wants(space)
+            || (streams_want(&self.lower.streams, space) || ids_want(&self.lower.ids, space))
     }
 
-    /// Whether something waits in the space: such a frame, an ACK that is owed, or a probe that is due.
+    /// Whether something waits in the space: such a frame, a DATAGRAM, an ACK that is owed, or a probe that is due.
     #[tactic(auto, unfolding(qc_state::specs::Offers::waits_in))]
     pub fn waits(&self, space: SpaceId) -> bool
         ensures { result ≡ waits_in (ideal U.Random.stream self.now) space }
     {
         self.wants_sending(space)
-            || (self.waiting.owes_ack(space) || self.waiting.owes_probe(space))
+            || (self.datagram_waits(space)
+                || (self.waiting.owes_ack(space) || self.waiting.owes_probe(space)))
     }
 
     /// Whether an ACK is all that is owed in the space, a probe aside.
     pub fn owes_ack_alone(&self, space: SpaceId) -> bool
-        ensures { result ≡ (not (wants_sending (ideal U.Random.stream self.now) space) && is_ack_owed (space_of self.now.waiting.spaces space).acks) }
+        ensures { result ≡ (not (wants_sending (ideal U.Random.stream self.now) space || datagram_waits space (ideal U.Random.stream self.now)) && is_ack_owed (space_of self.now.waiting.spaces space).acks) }
     {
-        let wants = self.wants_sending(space);
+        let wants = self.wants_sending(space) || self.datagram_waits(space);
         let owes = self.waiting.owes_ack(space);
         !wants && owes
     }
 
     /// The frames of the space's oldest packet in flight wait again, where there is one. Want of memory is the only refusal.
-    #[tactic(auto, unfolding(qc_state::specs::Lower::streams_stepped))]
+    #[tactic(auto, unfolding(qc_state::specs::Lower::streams_stepped, qc_state::specs::Lower::ids_stepped))]
     fn repeat(&mut self, space: SpaceId) -> Result<(), AllocError>
         ensures { OnOk result ((ideal U.Random.stream self.new) ≡ packet_again space (oldest_in (ideal U.Random.stream self.old) space) (ideal U.Random.stream self.old)) }
     {
@@ -61,12 +123,13 @@ impl<U: Suite> Core<U> {
             None => Ok(()),
             Some(packet) => {
                 packet_lost(&mut lower.streams, packet)?;
+                frames_lost(&mut lower.ids, &packet.frames)?;
                 self.waiting.again(space, &packet.frames)
             }
         }
     }
 
-    /// A PING waits in the space, where no frame does that elicits an acknowledgement.
+    /// A PING waits in the space, where no frame does that elicits an acknowledgement, DATAGRAMs aside.
     #[tactic(auto, unfolding(qc_state::specs::Offers::with_ping))]
     fn ping_instead(&mut self, space: SpaceId)
         ensures { (ideal U.Random.stream self.new) ≡ with_ping space (ideal U.Random.stream self.old) }
@@ -76,8 +139,8 @@ impl<U: Suite> Core<U> {
         }
     }
 
-    /// A probe is sent: where no frame waits that elicits an acknowledgement, those of the oldest packet in flight wait again, and
-    /// where it has none, a PING does. Want of memory is the only refusal.
+    /// A probe is sent: where no frame waits that elicits an acknowledgement, DATAGRAMs aside, those of the oldest packet in flight wait
+    /// again, and where it has none, a PING does. Want of memory is the only refusal.
     #[tactic(auto, unfolding(qc_state::specs::Offers::probe_sent))]
     fn probe(&mut self, space: SpaceId) -> Result<(), AllocError>
         ensures { OnOk result ((ideal U.Random.stream self.new) ≡ probe_sent space (ideal U.Random.stream self.old)) }

@@ -162,7 +162,8 @@ fn call(streams: &mut StreamsState, alloc: Global, input: &Input) -> Result<Answ
         | Input::SendDatagram { .. }
         | Input::RecvDatagram { .. }
         | Input::Close { .. }
-        | Input::Ping { .. } => Ok(Answer::Done),
+        | Input::Ping { .. }
+        | Input::Identifiers { .. } => Ok(Answer::Done),
     }
 }
 

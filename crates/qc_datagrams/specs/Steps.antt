@@ -2,9 +2,10 @@
 use Rattle.std.specs.Prelude.{ℕ, true, if◌then◌else◌, List, [], ◌∷◌, Option, None, Some}
 use Rattle.qc_datagrams.specs.declared.datagrams.Datagrams.{Datagrams}
 use Rattle.qc_datagrams.specs.declared.datagrams.SendRefusal.{SendRefusal}
-use Rattle.qc_datagrams.specs.Datagrams.{frame_taken, is_refused, send_queued, send_refusal, send_refused}
+use Rattle.qc_datagrams.specs.Datagrams.{frame_taken, is_refused, room_told, send_queued, send_refusal, send_refused}
 use Rattle.qc_datagrams.specs.Queue.{rest}
 
+-- what happens to them
 pub data Step : Type 0 where
   -- a DATAGRAM frame comes, refused or not
   Came : List ℕ → Step
@@ -12,6 +13,8 @@ pub data Step : Type 0 where
   Taken : Step
   -- the application sends one, refused or not: the oldest are dropped for it. It may have so many bytes, where the peer takes datagrams
   Sent : Option ℕ → List ℕ → Step
+  -- the oldest that is to be sent is sealed, and that there is room again needs no telling any more
+  Sealed : Step
 
 -- one is queued to be sent, unless it is refused
 abbrev pub sent_unless : Option SendRefusal → List ℕ → Datagrams → Datagrams
@@ -23,6 +26,7 @@ unfoldable pub after_step : Step → Datagrams → Datagrams
 after_step (Came d) s = if is_refused d s then s else frame_taken d s
 after_step Taken s = record s { incoming = rest s.incoming }
 after_step (Sent most d) s = sent_unless (send_refusal most true d s) d s
+after_step Sealed s = room_told (record s { outgoing = rest s.outgoing })
 
 -- what steps leave, one after the other
 unfoldable pub after : List Step → Datagrams → Datagrams

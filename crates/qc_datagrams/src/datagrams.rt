@@ -2,6 +2,8 @@
 
 ghost use Rattle.std.specs.Prelude.{◌≡◌, ℕ, ◌++◌, ◌==◌, true, false, length, IfOk, IfErr, OnOk, OnErr, Some, None, Err, is_err, option_to_list};
 ghost use Rattle.qc_datagrams.specs.Datagrams.{new_datagrams, is_refused, frame_taken, send_refusal, send_queued, send_refused, room_told, longer_dropped};
+ghost use Rattle.qc_datagrams.specs.Queue.{first};
+ghost use Rattle.qc_datagrams.specs.Steps.{Sealed, after_step};
 
 use crate::queue::DatagramQueue;
 use bytes::Bytes;
@@ -153,6 +155,17 @@ impl Datagrams {
         if let SendRefusal::Blocked = refusal {
             self.blocked = true;
         }
+    }
+
+    /// The oldest datagram that is to be sent leaves the queue, to be sealed; that there is room again
+    /// needs no telling any more. None exactly where none is to be sent.
+    #[tactic(auto, unfolding(crate::specs::Steps::after_step, crate::specs::Datagrams::room_told))]
+    pub fn seal(&mut self) -> Option<Bytes>
+        ensures given { option_to_list result ≡ first self.old.outgoing }
+        ensures sealed { self.new ≡ after_step Sealed self.old }
+    {
+        self.blocked = false;
+        self.outgoing.pop()
     }
 
     /// A packet with a datagram was sealed: whether one had been refused before, because the buffer

@@ -30,7 +30,7 @@ use Rattle.qc_state.specs.Acks.{is_ack}
 use Rattle.qc_state.specs.Forms.{is_early, number_space}
 use Rattle.qc_state.specs.Keys.{epoch_in}
 use Rattle.qc_state.specs.Life.{connected_reported, drained_reported, is_drained, is_open, is_over, life_closed, life_drained, life_raised, lost_reported, notices_reported, ready_reported, all_heard_reported}
-use Rattle.qc_state.specs.Moves.{Accept, Ack, Arm, Ask, Begin, Confirm, Establish, Fire, Forget, Give, MayMove, Move, Owe, Pace, PeerCloses, Raise, Release, Seal, Shut, Take, Tell, Write, arrival_of, armed_after, armed_with, deeds_move, keys_move, life_move, move_to, state_move, timers_move, waiting_move, Call, Post}
+use Rattle.qc_state.specs.Moves.{Accept, Ack, Arm, Ask, Begin, Confirm, Establish, Fire, Forget, Give, MayMove, Move, Owe, Pace, PeerCloses, Raise, Release, Seal, Shut, Take, Tell, Write, arrival_of, armed_after, armed_with, deeds_move, keys_move, life_move, move_to, state_move, timers_move, waiting_move, Call, Post, Issue, Outlive, Want}
 use Rattle.qc_state.specs.Numbers.{came_in, next_number}
 use Rattle.qc_state.specs.Offers.{packet_begun}
 use Rattle.qc_state.specs.Paths.{is_blocked}
@@ -40,8 +40,8 @@ use Rattle.qc_state.specs.Run.{IsAllowed, IsStep, Run, began, called, close_afte
 use Rattle.qc_state.specs.Sending.{Choice, MayTransmit, packet_size, transmit_after}
 use Rattle.qc_state.specs.Spaces.{space_of}
 use Rattle.qc_state.specs.Stopping.{killed_after}
-use Rattle.qc_state.specs.Timeouts.{ack_expired, close_expired, idle_expired, loss_expired, pacing_expired, timeout_after}
-use Rattle.qc_state.specs.Timers.{ack_delay_most, clock_set, has_come, timers_accepted, timers_armed, timers_closing, timers_paced, timers_released, timers_stopped}
+use Rattle.qc_state.specs.Timeouts.{ack_expired, close_expired, idle_expired, loss_expired, pacing_expired, timeout_after, ids_expired, wanted_anew}
+use Rattle.qc_state.specs.Timers.{ack_delay_most, clock_set, has_come, timers_accepted, timers_armed, timers_closing, timers_paced, timers_released, timers_stopped, timers_issued, timers_outlived}
 use Rattle.qc_state.specs.Types.{Types, Meaning}
 use Rattle.qc_state.specs.View.{View, At}
 use Rattle.qc_state.specs.Waiting.{ack_released, bundle_next, close_begun, crypto_written, done_asked, frames_again, holds_back, nothing_left, packet_came, packet_told, ping_asked, probe_spent, released, space_left, waiting_without}
@@ -59,6 +59,13 @@ use Rattle.qc_laws.proofs.TimerMoves.{IsPlain, plain_open}
 use Rattle.qc_state.proofs.Transmitted.{IsSending, holds_transmit}
 use Rattle.qc_laws.proofs.StreamCalls.{called_input}
 use Rattle.qc_datagrams.specs.Steps as datagrams
+use Rattle.qc_cids.specs.Cids.{asks_anew}
+
+-- ids that are given leave the timer of ACKs
+issued_delay : (b : Bool) (v : Timers) (oldest : Option ℕ) (time : ℕ) → (if b then v else timers_issued v oldest time).max_ack_delay ≡ v.max_ack_delay
+unfolding timers_issued
+issued_delay true v oldest time = refl
+issued_delay false v oldest time = refl
 
 module _ {t : Types} where
   -- what is told of an ACK that is held back, from one moment of an input at this time to another
@@ -150,7 +157,7 @@ module _ {t : Types} where
 
   -- the timer stays, or is stopped as the connection closes
   calm_timer : (m : Meaning t) (x : Move t) (s : View t) → IsCalm m x s → ((timers_move x s).max_ack_delay ≡ s.timers.max_ack_delay) ⊎ (((timers_move x s).max_ack_delay ≡ None) × (is_open (life_move x s).state ≡ false))
-  unfolding timers_move life_move life_closed life_drained life_raised clock_set timers_paced timers_armed timers_closing timers_stopped
+  unfolding timers_move life_move life_closed life_drained life_raised clock_set timers_paced timers_armed timers_outlived timers_closing timers_stopped
   calm_timer m (Take id fs) s k = absurd k
   calm_timer m (Accept time id n e g v) s k = absurd k
   calm_timer m Release s k = absurd k
@@ -158,6 +165,7 @@ module _ {t : Types} where
   calm_timer m (Shut time close) s k = inr (refl, refl)
   calm_timer m (PeerCloses time) s k = inr (refl, refl)
   calm_timer m (Raise to) s k = inr (refl, ap is_open k)
+  calm_timer m (Issue time given) s k = inl (issued_delay (is_drained s.life.state) s.timers _ time)
   calm_timer m _ s k = inl refl
 
   -- ---- from one moment to another
@@ -376,18 +384,26 @@ module _ {t : Types} where
       waited at (inl e) = inr (inr (came_by at now c.state.timers.max_ack_delay e is, owed_or (marks_of c.state).owed (length (space_of c.state.waiting.spaces «Data»).acks.ranges == 0)))
       waited at (inr e) = inr (inl e)
 
-  alive_result : (m : Meaning t) (time : ℕ) (a : At t) (b : Bool) → Result time a (if b then a else ack_expired time (pacing_expired time (close_expired time (idle_expired time (loss_expired m time a)))))
-  unfolding loss_expired idle_expired close_expired pacing_expired ack_expired
+  outlived_calmly : (m : Meaning t) (time : ℕ) (a : At t) (b : Bool) → Calmly time a (if b then wanted_anew time (asks_anew a.state.lower.ids) (move_to Outlive a) else a)
+  outlived_calmly m time a true =
+      let b : At t = move_to Outlive a in
+      calmly_next time a b (wanted_anew time (asks_anew a.state.lower.ids) b) (calmly_if m time Outlive a true tt) (calmly_if m time (Want time (asks_anew a.state.lower.ids)) b (is_open b.state.life.state) tt)
+  outlived_calmly m time a false = calmly_if m time Outlive a false tt
+
+  alive_result : (m : Meaning t) (time : ℕ) (a : At t) (b : Bool) → Result time a (if b then a else ack_expired time (ids_expired time (pacing_expired time (close_expired time (idle_expired time (loss_expired m time a))))))
+  unfolding loss_expired idle_expired close_expired pacing_expired ids_expired ack_expired
   alive_result m time a true = holding_result time a a (holding_here time a)
   alive_result m time a false =
       let b : At t = loss_expired m time a in
       let c : At t = idle_expired time b in
       let d : At t = close_expired time c in
       let e : At t = pacing_expired time d in
-      released_result time a e (has_come e.state.timers.max_ack_delay time) refl
-      (calmly_next time a b e (lost_calmly m time a (has_come a.state.timers.loss_detection time))
-      (calmly_next time b c e (killed_calmly m time lost.TimedOut b (has_come b.state.timers.idle time))
-      (calmly_next time c d e (calmly_if m time (Raise state.Drained) c (has_come c.state.timers.close time) refl) (calmly_if m time Pace d (has_come d.state.timers.pacing time) tt))))
+      let f : At t = ids_expired time e in
+      released_result time a f (has_come f.state.timers.max_ack_delay time) refl
+      (calmly_next time a b f (lost_calmly m time a (has_come a.state.timers.loss_detection time))
+      (calmly_next time b c f (killed_calmly m time lost.TimedOut b (has_come b.state.timers.idle time))
+      (calmly_next time c d f (calmly_if m time (Raise state.Drained) c (has_come c.state.timers.close time) refl)
+      (calmly_next time d e f (calmly_if m time Pace d (has_come d.state.timers.pacing time) tt) (outlived_calmly m time e (has_come e.state.timers.push_new_cid time))))))
 
   timeout_result : (m : Meaning t) (time : ℕ) (a : At t) → Result time a (timeout_after m time a)
   unfolding timeout_after
@@ -406,6 +422,7 @@ module _ {t : Types} where
   input_result m (input.Ping time) choice a may = holding_result time a _ (calm_holding m time (Ask a.state.keys.highest) a tt)
   input_result m (input.SendDatagram time body) choice a may = holding_result time a _ (calm_holding m time (Post (datagrams.Sent (datagram_limit a.state) body)) a tt)
   input_result m (input.RecvDatagram time) choice a may = holding_result time a _ (calm_holding m time (Post datagrams.Taken) a tt)
+  input_result m (input.Identifiers time given) choice a may = holding_result time a _ (calm_holding m time (Issue time given) a tt)
   input_result m i choice a may = holding_result (time_of i) a _ (called_input (Holding (time_of i)) (holding_here (time_of i)) (holding_next (time_of i)) (λ x b h. calm_holding m (time_of i) (Call x) b tt) i choice.read a may)
 
   -- ---- steps and runs

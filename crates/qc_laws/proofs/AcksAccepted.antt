@@ -24,7 +24,7 @@ use Rattle.qc_state.specs.Keys.{epoch_in}
 use Rattle.qc_state.specs.Forms.{number_space, is_early}
 use Rattle.qc_state.specs.Headline.{deeds_of, KnownBehind, AcksOnly, SealsKnown, AcksKnown, IsKept, EachAcksKnown}
 use Rattle.qc_state.specs.Life.{is_open}
-use Rattle.qc_state.specs.Moves.{Move, Clock, Ask, Take, Seal, Forget, Enter, Expect, Fail, Accept, Fix, Hear, Ack, Fire, Arm, Pace, Release, Begin, Skip, Come, Read, Write, Ready, Token, Learn, Want, Confirm, Establish, Tell, PeerClosesToo, PeerCloses, Owe, Shut, Raise, Give, Say, ReportReady, ReportConnected, ReportLost, ReportNotice, ReportNotices, ReportDrained, accepts, state_move, move_to, deeds_move, waiting_move, numbers_move, keys_move, life_move, MayMove, IsTold, told, arrival_of, Finish, Hand, Call, ReportStream, ReportStreams, told_to_streams, Post, ReportHeard, ReportAllHeard}
+use Rattle.qc_state.specs.Moves.{Move, Clock, Ask, Take, Seal, Forget, Enter, Expect, Fail, Accept, Fix, Hear, Ack, Fire, Arm, Pace, Release, Begin, Skip, Come, Read, Write, Ready, Token, Learn, Want, Confirm, Establish, Tell, PeerClosesToo, PeerCloses, Owe, Shut, Raise, Give, Say, ReportReady, ReportConnected, ReportLost, ReportNotice, ReportNotices, ReportDrained, accepts, state_move, move_to, deeds_move, waiting_move, numbers_move, keys_move, life_move, MayMove, IsTold, told, arrival_of, Finish, Hand, Call, ReportStream, ReportStreams, told_to_streams, Post, ReportHeard, ReportAllHeard, Insert, Switch, Retire, Issue, Outlive}
 use Rattle.qc_state.specs.Numbers.{next_number}
 use Rattle.qc_state.specs.Offers.{packet_begun}
 use Rattle.qc_state.proofs.Probed.{begun_holds}
@@ -268,6 +268,11 @@ module _ {t : Types} where
   knows_move id (Finish bytes) a h k = silent_knows id (Finish bytes) a refl (λ n m. m)
   knows_move id (Say q) a h k = deed_knows id (Say q) _ a refl tt (λ n m. m)
   knows_move id (Hand frame) a h k = handed_knows id frame a
+  knows_move id (Insert new) a h k = deed_knows id (Insert new) _ a refl tt (λ n m. m)
+  knows_move id Switch a h k = silent_knows id Switch a refl (λ n m. m)
+  knows_move id (Retire time n) a h k = deed_knows id (Retire time n) _ a refl tt (λ n m. m)
+  knows_move id (Issue time given) a h k = silent_knows id (Issue time given) a refl (λ n m. m)
+  knows_move id Outlive a h k = silent_knows id Outlive a refl (λ n m. m)
   knows_move id (Call x) a h k = silent_knows id (Call x) a refl (λ n m. m)
   knows_move id (Post x) a h k = silent_knows id (Post x) a refl (λ n m. m)
   knows_move id ReportReady a h k = silent_knows id ReportReady a refl (λ n m. m)
@@ -305,6 +310,9 @@ module _ {t : Types} where
   received_knows Establish s r = tt
   received_knows (Tell d) s r = tt
   received_knows (Hand frame) s r = tt
+  received_knows (Insert new) s r = tt
+  received_knows Switch s r = tt
+  received_knows (Retire time n) s r = tt
   received_knows PeerClosesToo s r = tt
   received_knows (PeerCloses time) s r = tt
   received_knows Owe s r = tt
@@ -361,6 +369,8 @@ module _ {t : Types} where
   timed_knows (Arm at) s r = tt
   timed_knows Pace s r = tt
   timed_knows Release s r = tt
+  timed_knows Outlive s r = tt
+  timed_knows (Want time count) s r = tt
   timed_knows (Raise to) s r = tt
   timed_knows (Give why) s r = tt
   timed_knows _ s r = absurd r
@@ -379,6 +389,7 @@ module _ {t : Types} where
   knows_input id m (input.Ping time) choice a h = knows_move id (Ask a.state.keys.highest) a tt tt
   knows_input id m (input.SendDatagram time body) choice a h = knows_move id (Post (datagrams.Sent (datagram_limit a.state) body)) a refl tt
   knows_input id m (input.RecvDatagram time) choice a h = knows_move id (Post datagrams.Taken) a refl tt
+  knows_input id m (input.Identifiers time given) choice a h = knows_move id (Issue time given) a h tt
   knows_input id m i choice a h = called_input (Knows id) (knows_here id) (knows_next id) (λ x b may. knows_move id (Call x) b may tt) i choice.read a h
 
   -- ---- runs

@@ -1,7 +1,9 @@
 -- Behind each call that takes a time, the greatest time is the greater of that one and of the one before: it never falls.
-use Rattle.std.proofs.Common.{◌≡◌, ℕ, List, ◌∷◌, refl, ap, ◌∙◌, Bool, true, false, if◌then◌else◌, Option, Ok}
+use Rattle.std.proofs.Common.{◌≡◌, ℕ, List, ◌∷◌, refl, ap, ◌∙◌, Bool, true, false, if◌then◌else◌, Option, None, Ok}
 use Rattle.std.specs.Prelude.{max}
+use Rattle.qc_base.specs.declared.ids.IssuedCid.{IssuedCid}
 use Rattle.qc_base.specs.declared.side.SpaceId.TheVariants.{Initial}
+use Rattle.qc_cids.specs.Cids.{give_refusal}
 use Rattle.qc_header.specs.HeaderGrammar.{DatagramItem}
 use Rattle.qc_header.specs.Piece.{Piece}
 use Rattle.qc_state.specs.declared.coming.Coming.{Coming}
@@ -10,7 +12,7 @@ use Rattle.qc_state.specs.declared.transmit.Transmit.{Transmit}
 use Rattle.qc_state.specs.declared.life.State.{State}
 use Rattle.qc_state.specs.declared.life.State.TheVariants as state
 use Rattle.qc_state.specs.Life.{is_handshake, is_open, is_over}
-use Rattle.qc_state.specs.Moves.{Move, Expect, Shut, MayMove, life_move, move_to, state_move, timers_move}
+use Rattle.qc_state.specs.Moves.{Move, Expect, Issue, Shut, MayMove, life_move, lower_move, move_to, state_move, timers_move}
 use Rattle.qc_state.specs.Paths.{is_blocked}
 use Rattle.qc_state.specs.Receiving.{counted_after, cut_of, datagram_after, event_after, first_packet_after, lets_in, opened_first, piece_after, pieces_after}
 use Rattle.qc_state.specs.Run.{began, close_after}
@@ -92,6 +94,12 @@ module _ {t : Types} where
   event_clock m coming p behind s s' is =
       ap (λ (v : View t). v.timers.greatest) is
       ∙ event_by m coming p (cut_of (began s coming.time).state behind) _ (began s coming.time) (lets_in (began s coming.time).state coming.remote) ∙ began_clock s coming.time
+
+  -- ids that are given
+  pub issue_clock : (time : ℕ) (given : List IssuedCid) (s s' : View t) → give_refusal given s.lower.ids ≡ None → s' ≡ (move_to (Issue time given) (began s time)).state →
+      s'.timers.greatest ≡ max s.timers.greatest time
+  unfolding began MayMove state_move lower_move
+  issue_clock time given s s' may is = ap (λ (v : View t). v.timers.greatest) is ∙ stands_move (Issue time given) (began s time) may ∙ began_clock s time
 
   -- a server's first packet
   pub first_packet_clock : (m : Meaning t) (coming : Coming) (source token : List ℕ) (number : ℕ) (payload behind : List ℕ) (size : ℕ) (s s' : View t) →

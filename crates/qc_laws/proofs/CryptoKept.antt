@@ -36,8 +36,8 @@ use Rattle.qc_laws.specs.EndLaws.{Ends}
 use Rattle.qc_state.specs.Headline.{deeds_of}
 use Rattle.qc_state.specs.Keys.{NewKeys, failure_counted, has_keys, keys_given, epoch_in}
 use Rattle.qc_state.specs.Life.{connected_reported, data_ready, drained_reported, identifiers_wanted, is_open, life_closed, life_drained, life_established, life_raised, lost_reported, ready_reported, reason_given, token_learned, notice_reported, notices_reported, all_heard_reported, heard_reported}
-use Rattle.qc_state.specs.Lower.{bytes_came, flight_dropped, packet_flown, packets_settled, session_read, session_wrote, timer_fired, limits_learned, frame_handed, streams_closed, streams_stepped, event_told, events_told, datagrams_stepped}
-use Rattle.qc_state.specs.Moves.{Accept, Ack, AreNext, Ask, Begin, Clock, Confirm, PeerClosesToo, Establish, Fail, Fire, Forget, Give, PeerCloses, MayMove, Move, Owe, Raise, Release, ReportConnected, ReportDrained, ReportLost, ReportReady, ReportNotice, ReportNotices, Seal, Shut, Take, Write, arrival_of, deeds_move, keys_move, life_move, lower_move, move_to, paths_move, state_move, waiting_move, ReportStream, ReportStreams, ReportHeard, ReportAllHeard, Hand}
+use Rattle.qc_state.specs.Lower.{bytes_came, flight_dropped, packet_flown, packets_settled, session_read, session_wrote, timer_fired, limits_learned, frame_handed, streams_closed, streams_stepped, event_told, events_told, datagrams_stepped, frames_sealed, ids_stepped}
+use Rattle.qc_state.specs.Moves.{Accept, Ack, AreNext, Ask, Begin, Clock, Confirm, PeerClosesToo, Establish, Fail, Fire, Forget, Give, PeerCloses, MayMove, Move, Owe, Raise, Release, ReportConnected, ReportDrained, ReportLost, ReportReady, ReportNotice, ReportNotices, Seal, Shut, Take, Write, arrival_of, deeds_move, keys_move, life_move, lower_move, move_to, paths_move, state_move, waiting_move, ReportStream, ReportStreams, ReportHeard, ReportAllHeard, Hand, Insert, Switch, Retire}
 use Rattle.qc_state.specs.Numbers.{next_number}
 use Rattle.qc_state.specs.Numbers as numbers
 use Rattle.qc_state.specs.Offers.{packet_begun}
@@ -48,7 +48,6 @@ use Rattle.qc_laws.specs.RecoveryLaws as laws
 use Rattle.qc_state.specs.Run.{IsStep, Run, began, called, input_after, reported, time_of}
 use Rattle.qc_state.specs.Run as run
 use Rattle.qc_state.specs.Sending.{packet_size}
-use Rattle.qc_state.specs.StreamFrames.{sealed_steps}
 use Rattle.qc_state.specs.Types.{Types, Meaning}
 use Rattle.qc_state.specs.View.{View, At}
 use Rattle.qc_laws.proofs.EndsHold.{began_ends, ends_seal, known_keeps, low_open, step_ends}
@@ -60,7 +59,10 @@ use Rattle.qc_state.proofs.Transmitted.{IsSealable}
 use Rattle.qc_laws.proofs.CryptoBuffers.{More, crypto_more_holds, crypto_more_sent, lost_in_more, more_here, more_next, more_same}
 use Rattle.qc_laws.proofs.CryptoPlaces.{FiresIn, ack_flight, ack_other, acked_crypto, apart_lower, apart_values, bundled_spaces, came_crypto, closed_crypto, dropped_highest, dropped_keys, failed_keys, fire_kept, fired_flight, flown_lower, given_above, given_keys, given_open, here_values, in_other, in_same, left_counts, more_bytes, narrow, none_written, not_above, put_again, put_crypto, put_other, rank_other, same_or, sealed_apart, sealed_stream, settled_bytes, settled_other, settled_stream, used_highest, used_keys, written_same}
 use Rattle.qc_state.specs.Datagrams.{tells_datagram}
-use Rattle.qc_laws.proofs.StreamCalls.{heard_state}
+use Rattle.qc_laws.proofs.StreamCalls.{heard_state, named_state, retired_state}
+use Rattle.qc_cids.specs.Cids.{asks_one, next_token, token_by}
+use Rattle.qc_ids.specs.LocalCids.{may_retire}
+use Rattle.qc_state.specs.Ids.{active_limit}
 
 -- ---- moves
 
@@ -119,7 +121,7 @@ module _ {t : Types} where
   still_crypto _ s id h = refl
 
   still_lower : (x : Move t) (s : View t) → IsStill x → (lower_move x s).recovery ≡ s.lower.recovery
-  unfolding lower_move bytes_came session_read limits_learned frame_handed streams_closed streams_stepped datagrams_stepped event_told events_told
+  unfolding lower_move bytes_came session_read limits_learned frame_handed streams_closed streams_stepped datagrams_stepped event_told events_told frames_sealed ids_stepped
   still_lower (Clock time) s h = absurd h
   still_lower (Take space fs) s h = absurd h
   still_lower (Seal time form n size fs) s h = absurd h
@@ -165,6 +167,9 @@ module _ {t : Types} where
   move_open m (Raise to) s k may h = let end : is_open to ≡ false = ap is_open k in cc
   move_open m (Give why) s k may h = ap is_open (sym (given_open s.life why (is_none s.life.reason))) ∙ h
   move_open m (Hand frame) s k may h = ap is_open (sym (heard_state (tells_datagram frame s.lower.datagrams) s.life)) ∙ h
+  move_open m (Insert new) s k may h = ap is_open (sym (named_state (token_by new s.lower.ids.remote) s.life s.paths.current.remote)) ∙ h
+  move_open m Switch s k may h = ap is_open (sym (named_state (next_token s.lower.ids.remote) s.life s.paths.current.remote)) ∙ h
+  move_open m (Retire time n) s k may h = ap is_open (sym (retired_state (may_retire n s.lower.ids.local) s.life time n (asks_one (active_limit s.setup.peer) n s.lower.ids))) ∙ h
   move_open m _ s k may h = h
 
   still_same : (m : Meaning t) (x : Move t) (s : View t) (id : SpaceId) → IsStill x → IsKnownMove m x s → MayMove x s → Same id s (state_move x s)
@@ -188,12 +193,12 @@ module _ {t : Types} where
       space opens s (more_here (crypto_of id s))
 
   begin_same : (space : SpaceId) (opens : Bool) (s : View t) (id : SpaceId) → Same id s (state_move (Begin space opens) s)
-  unfolding state_move waiting_move lower_move streams_stepped keys_move life_move
+  unfolding state_move waiting_move lower_move streams_stepped keys_move life_move frames_sealed ids_stepped
   begin_same space opens s id = record { more = begun_crypto space opens s id; flight = ap (λ (l : Lower t.S). (recovery.space_of id l.recovery).flight) (begun_streams space opens s); highest = refl; keys = λ k. k; opened = λ o. o }
 
   -- the keys of a space are dropped
   forget_holds : (space : SpaceId) (s : View t) (id : SpaceId) (before : List Entry) → CryptoKept id before s → CryptoKept id (before ++ []) (state_move (Forget space) s)
-  unfolding state_move waiting_move lower_move keys_move life_move space_left flight_dropped dropped_after
+  unfolding state_move waiting_move lower_move keys_move life_move space_left flight_dropped dropped_after frames_sealed ids_stepped
   forget_holds space s id before h =
       let counts = left_counts id space s.waiting.spaces in
       record {
@@ -208,7 +213,7 @@ module _ {t : Types} where
 
   -- in the space of an ACK
   ack_here : (m : Meaning t) (n : ℕ) (after : After t.C) (s : View t) (id : SpaceId) (before : List Entry) → IsSettledBy m id after s → CryptoKept id before s → CryptoKept id (before ++ after.acked) (state_move (Ack id n after) s)
-  unfolding state_move waiting_move lower_move streams_stepped keys_move life_move packets_lost packets_acked packets_settled settled_by
+  unfolding state_move waiting_move lower_move streams_stepped keys_move life_move packets_lost packets_acked packets_settled settled_by frames_sealed ids_stepped
   ack_here m n after s id before settled h =
       let w : SpaceWaiting = acked_in (space_of s.waiting.spaces id) after.acked in
       let as_was : w.crypto ≡ crypto_of id s = acked_crypto (space_of s.waiting.spaces id) after.acked in
@@ -225,7 +230,7 @@ module _ {t : Types} where
 
   -- in another one
   ack_apart : (m : Meaning t) (space : SpaceId) (n : ℕ) (after : After t.C) (s : View t) (id : SpaceId) (before : List Entry) → IsSettledBy m space after s → is_space id space ≡ false → CryptoKept id before s → CryptoKept id (before ++ []) (state_move (Ack space n after) s)
-  unfolding state_move waiting_move lower_move streams_stepped keys_move life_move packets_lost packets_acked packets_settled settled_by
+  unfolding state_move waiting_move lower_move streams_stepped keys_move life_move packets_lost packets_acked packets_settled settled_by frames_sealed ids_stepped
   ack_apart m space n after s id before settled other h = same_holds id before s (state_move (Ack space n after) s) (record {
     more = more_same (crypto_of id s) _ (settled_other id space s.waiting.spaces after.acked after.lost other);
     flight = ap (λ (a : After t.C). (recovery.space_of id a.recovery).flight) settled.is ∙ ack_other m.control _ id space _ _ _ _ _ s.lower.recovery s.paths.current.kept other;
@@ -244,7 +249,7 @@ module _ {t : Types} where
       (ack_apart m space n after s id before settled other h)
 
   fire_holds : (m : Meaning t) (after : FiredAfter t.C) (s : View t) (id : SpaceId) (before : List Entry) → IsFiredBy m after s → CryptoKept id before s → CryptoKept id (before ++ []) (state_move (Fire after) s)
-  unfolding state_move waiting_move lower_move streams_stepped keys_move life_move timer_fired fired_by
+  unfolding state_move waiting_move lower_move streams_stepped keys_move life_move timer_fired fired_by frames_sealed ids_stepped
   fire_holds m after s id before fires h =
       fire_kept after.fired s.waiting s.lower.recovery after.recovery s.keys.highest (is_open s.life.state) (has_keys s.keys id) id before
       (subst (λ (a : FiredAfter t.C). FiresIn id s.lower.recovery a.recovery a.fired) (sym fires.is) (fired_flight m.control id _ _ s.lower.recovery s.paths.current.kept)) h
@@ -253,7 +258,7 @@ module _ {t : Types} where
 
   write_by : (bytes : List ℕ) (keys : NewKeys t.H t.P) (session : t.S) (s : View t) (id : SpaceId) (before : List Entry) → AreNext keys s.keys.highest → (id ≡ s.keys.highest) ⊎ (is_space id s.keys.highest ≡ false) → CryptoKept id before s →
       CryptoKept id before (state_move (Write bytes keys session) s)
-  unfolding state_move waiting_move lower_move keys_move life_move crypto_written session_wrote
+  unfolding state_move waiting_move lower_move keys_move life_move crypto_written session_wrote frames_sealed ids_stepped
   write_by bytes keys session s id before next (inl is) h =
       let low : is_below s.keys.highest id ≡ false = ap (λ (x : SpaceId). is_below x id) (sym is) ∙ not_above id in
       subst (λ (b : Buffer). CryptoHolds id before (keys_given s.keys keys).highest (is_open s.life.state) (has_keys (keys_given s.keys keys) id) b (flight_of id s)) (sym (written_same id s.keys.highest s.waiting.spaces bytes is))
@@ -310,9 +315,9 @@ module _ {t : Types} where
 
   seal_kept : (time n size : ℕ) (form : Form) (fs : List FrameValue) (s : View t) (id : SpaceId) (before : List Entry) → (id ≡ number_space form) ⊎ (is_space id (number_space form) ≡ false) → (is_open s.life.state ≡ true → s.waiting.close_owed ≡ false) → CryptoKept id before s →
       CryptoKept id (before ++ []) (state_move (Seal time form n size fs) (state_move (Take (number_space form) fs) s))
-  unfolding state_move waiting_move lower_move streams_stepped keys_move life_move waiting_without packet_told bundle_next flown_packet
+  unfolding state_move waiting_move lower_move streams_stepped datagrams_stepped keys_move life_move waiting_without packet_told bundle_next flown_packet frames_sealed ids_stepped
   seal_kept time n size form fs s id before (inl is) unowed h =
-      let taken : Lower t.S = streams_stepped (sealed_steps fs) s.lower in
+      let taken : Lower t.S = frames_sealed fs s.lower in
       narrow id (before ++ []) s.keys.highest _ (is_open s.life.state) (has_keys s.keys id) _ _ _ (used_highest s.keys form n) (used_keys s.keys form n id)
       (subst (λ (b : Buffer). CryptoHolds id (before ++ []) s.keys.highest (is_open s.life.state) (has_keys s.keys id) b (recovery.space_of id (if s.waiting.close_owed then taken else packet_flown taken (number_space form) n (flown_packet time size fs)).recovery).flight)
       (sym (ap (λ (v : Spaces SpaceWaiting). (space_of v id).crypto) (bundled_spaces _ _ (list_any is_ack fs))
@@ -323,7 +328,7 @@ module _ {t : Types} where
       narrow id (before ++ []) s.keys.highest _ (is_open s.life.state) (has_keys s.keys id) _ _ _ (used_highest s.keys form n) (used_keys s.keys form n id)
       (apart_values id before s.keys.highest (is_open s.life.state) (has_keys s.keys id) (crypto_of id s) _ (flight_of id s) _
       (ap (λ (v : Spaces SpaceWaiting). (space_of v id).crypto) (bundled_spaces _ _ (list_any is_ack fs)) ∙ sealed_apart id (number_space form) s.waiting.spaces fs other)
-      (apart_lower s.waiting.close_owed (streams_stepped (sealed_steps fs) s.lower) (number_space form) n (flown_packet time size fs) id other) h)
+      (apart_lower s.waiting.close_owed (frames_sealed fs s.lower) (number_space form) n (flown_packet time size fs) id other) h)
 
 -- ---- inputs, steps and runs
 
@@ -382,7 +387,7 @@ module _ {t : Types} where
 
   keeping_packet : (m : Meaning t) (time : ℕ) (form : Form) (fs : List FrameValue) (a : At t) → IsSealable time a.state form fs → Ends a.state →
       Keeping m a (move_to (Seal time form (next_number a.state.numbers (number_space form)) (packet_size a.state form fs) fs) (move_to (Take (number_space form) fs) a))
-  unfolding steps_of state_move lower_move streams_stepped paths_move keys_move deeds_move move_to waiting_move waiting_without
+  unfolding steps_of state_move lower_move streams_stepped datagrams_stepped paths_move keys_move deeds_move move_to waiting_move waiting_without frames_sealed ids_stepped
   keeping_packet m time form fs a may ends =
       let space : SpaceId = number_space form in
       let n : ℕ = next_number a.state.numbers space in
@@ -411,7 +416,7 @@ module _ {t : Types} where
   Keeps m a b = Ends a.state → Ends b.state × Keeping m a b
 
   step_keeps : (m : Meaning t) (k : ℕ) (s : View t) (i : Input) (x : Step) (s' : View t) → IsStep m k s i x s' → Ends s → KeepsBytes m x.did s s'
-  unfolding called began run.step_after reported state_move lower_move events_told streams_stepped datagrams_stepped paths_move keys_move life_move waiting_move ready_reported connected_reported all_heard_reported lost_reported notice_reported notices_reported drained_reported
+  unfolding called began run.step_after reported state_move lower_move events_told streams_stepped datagrams_stepped paths_move keys_move life_move waiting_move ready_reported connected_reported all_heard_reported lost_reported notice_reported notices_reported drained_reported frames_sealed ids_stepped
   step_keeps m k s i x s' h ends =
       let a : At t = began s (time_of i) in
       let b : At t = input_after m i h.choice a in

@@ -20,14 +20,14 @@ use Rattle.qc_state.specs.Acks.{is_ack}
 use Rattle.qc_laws.specs.EndLaws.{EndHolds, Ends, NoTimer}
 use Rattle.qc_state.specs.Forms.{number_space}
 use Rattle.qc_state.specs.Life.{connected_reported, data_ready, drained_reported, identifiers_wanted, is_closed, is_drained, is_open, life_closed, life_drained, life_established, life_raised, lost_reported, rank_of, ready_reported, reason_given, token_learned, notice_reported, notices_reported, all_heard_reported}
-use Rattle.qc_state.specs.Moves.{Accept, Ack, Arm, Ask, Begin, Clock, Come, Confirm, PeerClosesToo, Enter, Establish, Expect, Fail, Finish, Fire, Fix, Forget, Give, Hear, IsArmed, Learn, PeerCloses, MayMove, Move, Owe, Pace, Raise, Read, Ready, Release, ReportConnected, ReportDrained, ReportLost, ReportReady, ReportNotice, ReportNotices, Say, Seal, Shut, Skip, Take, Tell, Token, Want, Write, keys_move, life_move, move_to, numbers_move, state_move, timers_move, waiting_move, Call, Hand, ReportStream, ReportStreams, Post, ReportHeard, ReportAllHeard}
+use Rattle.qc_state.specs.Moves.{Accept, Ack, Arm, Ask, Begin, Clock, Come, Confirm, PeerClosesToo, Enter, Establish, Expect, Fail, Finish, Fire, Fix, Forget, Give, Hear, IsArmed, Learn, PeerCloses, MayMove, Move, Owe, Pace, Raise, Read, Ready, Release, ReportConnected, ReportDrained, ReportLost, ReportReady, ReportNotice, ReportNotices, Say, Seal, Shut, Skip, Take, Tell, Token, Want, Write, keys_move, life_move, move_to, numbers_move, state_move, timers_move, waiting_move, Call, Hand, ReportStream, ReportStreams, Post, ReportHeard, ReportAllHeard, Insert, Switch, Retire, Issue, Outlive}
 use Rattle.qc_state.specs.Numbers.{next_number}
 use Rattle.qc_state.specs.Offers.{packet_begun}
 use Rattle.qc_state.specs.Recovering.{loss_time, probe_timeout_now}
 use Rattle.qc_state.specs.Run.{IsStep, Run, began, called, input_after, reported, step_after, time_of}
 use Rattle.qc_state.specs.Sending.{packet_size}
 use Rattle.qc_state.specs.Setup.{idle_limit_now}
-use Rattle.qc_state.specs.Timers.{clock_set, timers_acking, timers_armed, timers_closing, timers_paced, timers_released, timers_sealed, timers_stopped}
+use Rattle.qc_state.specs.Timers.{clock_set, timers_acking, timers_armed, timers_closing, timers_paced, timers_released, timers_sealed, timers_stopped, timers_issued, timers_outlived}
 use Rattle.qc_state.specs.Types.{Types, Meaning}
 use Rattle.qc_state.specs.View.{View, At}
 use Rattle.qc_state.specs.Waiting.{ack_released, bundle_next, close_begun, crypto_written, done_asked, fired_in, packet_came, packet_told, packets_acked, frames_again, packets_lost, ping_asked, probe_spent, probes_added, space_left, waiting_without}
@@ -37,7 +37,10 @@ use Rattle.qc_state.proofs.Probed.{begun_holds}
 use Rattle.qc_state.proofs.Telling.{open_rank}
 use Rattle.qc_state.proofs.Transmitted.{IsSealable}
 use Rattle.qc_state.specs.Datagrams.{tells_datagram}
-use Rattle.qc_laws.proofs.StreamCalls.{heard_state}
+use Rattle.qc_laws.proofs.StreamCalls.{heard_state, named_state, retired_state}
+use Rattle.qc_cids.specs.Cids.{asks_one, next_token, token_by}
+use Rattle.qc_ids.specs.LocalCids.{may_retire}
+use Rattle.qc_state.specs.Ids.{active_limit}
 
 -- an open life hasn't drained
 open_alive : (s : State) → is_open s ≡ true → is_drained s ≡ false
@@ -124,6 +127,16 @@ none_released : (v : Timers) → NoTimer v → NoTimer (timers_released v)
 unfolding timers_released
 none_released v h = record { loss_detection = h.loss_detection; idle = h.idle; close = h.close; key_discard = h.key_discard; path_validation = h.path_validation; keep_alive = h.keep_alive; pacing = h.pacing; push_new_cid = h.push_new_cid; max_ack_delay = refl }
 
+none_outlived : (v : Timers) → NoTimer v → NoTimer (timers_outlived v)
+unfolding timers_outlived
+none_outlived v h = record { loss_detection = h.loss_detection; idle = h.idle; close = h.close; key_discard = h.key_discard; path_validation = h.path_validation; keep_alive = h.keep_alive; pacing = h.pacing; push_new_cid = refl; max_ack_delay = h.max_ack_delay }
+
+-- ids that are given set a timer of their own, unless the connection has drained
+issued_holds : (b : Bool) (l : State) (v : Timers) (oldest : Option ℕ) (time : ℕ) (o : Bool) → is_drained l ≡ b → EndHolds l v o → EndHolds l (if b then v else timers_issued v oldest time) o
+unfolding timers_issued
+issued_holds true l v oldest time o is h = h
+issued_holds false l v oldest time o is h = record { closing = h.closing; ended = λ d. absurd cc; owed = h.owed }
+
 none_clocked : (v : Timers) (time : ℕ) → NoTimer v → NoTimer (clock_set v time)
 unfolding clock_set
 none_clocked v time h = record { loss_detection = h.loss_detection; idle = h.idle; close = h.close; key_discard = h.key_discard; path_validation = h.path_validation; keep_alive = h.keep_alive; pacing = h.pacing; push_new_cid = h.push_new_cid; max_ack_delay = h.max_ack_delay }
@@ -165,7 +178,7 @@ module _ {t : Types} where
       }
 
   move_keeps : (x : Move t) → IsMade x → (a : At t) → MayMove x a.state → Keeps a (move_to x a)
-  unfolding MayMove move_to state_move life_move timers_move waiting_move ping_asked waiting_without space_left packet_came packets_lost packets_acked ack_released crypto_written done_asked life_established life_drained life_closed life_raised data_ready token_learned identifiers_wanted reason_given timers_armed timers_paced timers_released timers_stopped timers_closing close_begun
+  unfolding MayMove move_to state_move life_move timers_move waiting_move ping_asked waiting_without space_left packet_came packets_lost packets_acked ack_released crypto_written done_asked life_established life_drained life_closed life_raised data_ready token_learned identifiers_wanted reason_given timers_armed timers_paced timers_released timers_outlived timers_stopped timers_closing close_begun
   move_keeps (Clock time) r a may = absurd may
   move_keeps (Ask id) r a may = λ h. h
   move_keeps (Take id fs) r a may = λ h. h
@@ -214,6 +227,12 @@ module _ {t : Types} where
   move_keeps (Hand frame) r a may = λ h. same_holds _ _ _ _ _ _ (heard_state (tells_datagram frame a.state.lower.datagrams) a.state.life) refl refl h
   move_keeps (Call x) r a may = λ h. h
   move_keeps (Post x) r a may = λ h. h
+  move_keeps (Insert new) r a may = λ h. same_holds _ _ _ _ _ _ (named_state (token_by new a.state.lower.ids.remote) a.state.life a.state.paths.current.remote) refl refl h
+  move_keeps Switch r a may = λ h. same_holds _ _ _ _ _ _ (named_state (next_token a.state.lower.ids.remote) a.state.life a.state.paths.current.remote) refl refl h
+  move_keeps (Retire time n) r a may = λ h.
+      same_holds _ _ _ _ _ _ (retired_state (may_retire n a.state.lower.ids.local) a.state.life time n (asks_one (active_limit a.state.setup.peer) n a.state.lower.ids)) refl refl h
+  move_keeps (Issue time given) r a may = λ h. issued_holds (is_drained a.state.life.state) a.state.life.state a.state.timers _ time a.state.waiting.close_owed refl h
+  move_keeps Outlive r a may = λ h. record { closing = h.closing; ended = λ d. none_outlived a.state.timers (h.ended d); owed = h.owed }
   move_keeps _ r a may = absurd r
 
   -- so do the moves that are known of an input, and those with which a packet is taken and sealed

@@ -3,6 +3,7 @@ use Rattle.std.proofs.Common.{◌≡◌, ℕ, ◌+◌, ◌<◌, ◌≤◌, List,
 use Rattle.std.proofs.lemmas.Bool.Decides.{nat_tests}
 use Rattle.std.specs.Prelude.{◌&&◌, ◌==◌, not, nat_le, is_none, is_some, option_to_list, map}
 use Rattle.std.specs.Option.{option_map}
+use Rattle.std.specs.declared.net.SocketAddr.{SocketAddr}
 use Rattle.qc_state.specs.declared.deeds.Did.{Did}
 use Rattle.qc_state.specs.declared.deeds.Did.TheVariants as did
 use Rattle.qc_state.specs.declared.events.EndpointEvent.{EndpointEvent}
@@ -17,8 +18,8 @@ use Rattle.qc_state.specs.declared.life.State.TheVariants as state
 use Rattle.qc_state.specs.declared.trace.Step.{Step}
 use Rattle.qc_laws.specs.EventLaws.{EachTells, OnlyDoneWaits, TellsDone, TellsOnce, Untold, all_told, connections_in, endpoint_events_of, ends_in, events_of, losses_in, once, rises_to, untold_of, is_heard}
 use Rattle.qc_state.specs.Headline.{LifeRises, LosesOnce, RisesFrom, deeds_of, lives_in, reasons_in}
-use Rattle.qc_state.specs.Life.{connected_event, connected_reported, data_ready, drained_event, drained_reported, event_if, identifiers_wanted, is_drained, life_closed, life_drained, life_established, life_raised, lost_event, lost_reported, rank_of, ready_event, ready_reported, reason_given, token_learned, notices_reported, all_heard_reported, datagram_heard}
-use Rattle.qc_state.specs.Moves.{IsTold, MayMove, Move, Accept, Clock, PeerClosesToo, Enter, Establish, Give, PeerCloses, Raise, Ready, ReportConnected, ReportDrained, ReportLost, ReportReady, ReportNotice, ReportNotices, Say, Seal, Shut, Tell, Token, Want, deeds_move, life_move, move_to, state_move, Hand, ReportStream, ReportStreams, ReportHeard, ReportAllHeard, told_to_streams}
+use Rattle.qc_state.specs.Life.{connected_event, connected_reported, data_ready, drained_event, drained_reported, event_if, identifiers_wanted, is_drained, life_closed, life_drained, life_established, life_raised, lost_event, lost_reported, rank_of, ready_event, ready_reported, reason_given, token_learned, notices_reported, all_heard_reported, datagram_heard, retirement_told, token_told}
+use Rattle.qc_state.specs.Moves.{IsTold, MayMove, Move, Accept, Clock, PeerClosesToo, Enter, Establish, Give, PeerCloses, Raise, Ready, ReportConnected, ReportDrained, ReportLost, ReportReady, ReportNotice, ReportNotices, Say, Seal, Shut, Tell, Token, Want, deeds_move, life_move, move_to, state_move, Hand, ReportStream, ReportStreams, ReportHeard, ReportAllHeard, told_to_streams, Insert, Switch, Retire}
 use Rattle.qc_state.specs.Polls.{endpoint_events, waiting_events}
 use Rattle.qc_state.specs.Run.{IsStep, Ran, Run, began, called, input_after, reported, step_after, time_of, IsAllowed}
 use Rattle.qc_state.specs.Types.{Types, Meaning}
@@ -33,6 +34,9 @@ use Rattle.qc_state.specs.Streams as streams_events
 use Rattle.qc_state.specs.Datagrams.{tells_datagram}
 use Rattle.qc_state.specs.Sending.{Choice}
 use Rattle.std.specs.List.{list_all}
+use Rattle.qc_cids.specs.Cids.{asks_one, next_token, token_by}
+use Rattle.qc_ids.specs.LocalCids.{may_retire}
+use Rattle.qc_state.specs.Ids.{active_limit}
 
 -- ---- deeds and events, one list behind another
 
@@ -78,6 +82,7 @@ ends_append : (es fs : List EndpointEvent) → ends_in (es ++ fs) ≡ ends_in es
 ends_append [] fs = omega arith
 ends_append (endpoint.ResetToken remote token ∷ es) fs = ends_append es fs
 ends_append (endpoint.NeedIdentifiers time count ∷ es) fs = ends_append es fs
+ends_append (endpoint.RetireConnectionId time n more ∷ es) fs = ends_append es fs
 ends_append (endpoint.Drained ∷ es) fs = let more : ends_in (es ++ fs) ≡ ends_in es + ends_in fs = ends_append es fs in omega (arith, more)
 
 -- ---- what waits to be told, over moves
@@ -172,6 +177,25 @@ heard_waits true ds v h = record {
 }
 heard_waits false ds v h = h
 
+-- what waits for the endpoint before the end is one more, which isn't the end
+notice_waits : (ds : List Did) (v : Life) (e : EndpointEvent) → ends_in (e ∷ []) ≡ 0 → Waits ds v v → Waits ds v (record v { notices = v.notices ++ e ∷ [] })
+notice_waits ds v e none h = record {
+  done = record { lost = h.done.lost; connected = h.done.connected; drained = h.done.drained; notices = one_notice v.notices e none h.done.notices; heard = h.done.heard };
+  lost = h.lost;
+  connected = h.connected;
+  drained = h.drained;
+}
+
+named_waits : (o : Option (List ℕ)) (remote : SocketAddr) (ds : List Did) (v : Life) → Waits ds v v → Waits ds v (token_told v remote o)
+unfolding token_learned
+named_waits None remote ds v h = h
+named_waits (Some token) remote ds v h = notice_waits ds v (endpoint.ResetToken remote token) refl h
+
+retired_waits : (b : Bool) (time n : ℕ) (more : Bool) (ds : List Did) (v : Life) → Waits ds v v → Waits ds v (if b then retirement_told v time n more else v)
+unfolding retirement_told
+retired_waits true time n more ds v h = notice_waits ds v (endpoint.RetireConnectionId time n more) refl h
+retired_waits false time n more ds v h = h
+
 module _ {t : Types} where
   -- from one moment to another: the deeds between, and what waits behind them
   record Keeps (a b : At t) : Type 0 where
@@ -201,6 +225,10 @@ module _ {t : Types} where
       heard_waits (tells_datagram frame s.lower.datagrams) (told_to_streams frame) s.life
       (handed_told (λ ds. Waits ds s.life s.life) frame (same_waits [] s.life refl refl refl w) (λ body. same_waits (did.Gave layer.Streams body ∷ []) s.life refl refl refl w))
   life_waits Ready s r h w = record { done = record { lost = w.lost; connected = w.connected; drained = w.drained; notices = w.notices; heard = w.heard }; lost = sym (append-nil (option_to_list s.life.lost)); connected = omega arith; drained = omega arith }
+  life_waits (Insert new) s r h w = named_waits (token_by new s.lower.ids.remote) s.paths.current.remote _ s.life (same_waits _ s.life refl refl refl w)
+  life_waits Switch s r h w = named_waits (next_token s.lower.ids.remote) s.paths.current.remote [] s.life (same_waits [] s.life refl refl refl w)
+  life_waits (Retire time n) s r h w =
+      retired_waits (may_retire n s.lower.ids.local) time n (asks_one (active_limit s.setup.peer) n s.lower.ids) _ s.life (same_waits _ s.life refl refl refl w)
   life_waits (Token token) s r h w = record { done = record { lost = w.lost; connected = w.connected; drained = w.drained; notices = one_notice s.life.notices (endpoint.ResetToken s.paths.current.remote token) refl w.notices; heard = w.heard }; lost = sym (append-nil (option_to_list s.life.lost)); connected = omega arith; drained = omega arith }
   life_waits (Want time count) s r h w = record { done = record { lost = w.lost; connected = w.connected; drained = w.drained; notices = one_notice s.life.notices (endpoint.NeedIdentifiers time count) refl w.notices; heard = w.heard }; lost = sym (append-nil (option_to_list s.life.lost)); connected = omega arith; drained = omega arith }
   life_waits Establish s r h w = established_waits s.life h w

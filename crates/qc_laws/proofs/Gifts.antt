@@ -23,12 +23,12 @@ use Rattle.qc_state.specs.declared.numbers.Numbers.{Numbers}
 use Rattle.qc_state.specs.declared.paths.Paths.{Paths}
 use Rattle.qc_state.specs.Keys.{keys_dropped}
 use Rattle.qc_state.specs.Life.{is_established, is_open, data_ready}
-use Rattle.qc_state.specs.Lower.{bytes_came, datagrams_stepped, flight_dropped, frame_handed, handed_stop, packets_settled, ready_bytes, session_read, stream_of, streams_stepped}
-use Rattle.qc_state.specs.Moves.{Move, Ack, Arm, Come, Confirm, Establish, Forget, Give, Learn, PeerCloses, Owe, Read, Ready, Shut, Tell, Token, Want, Write, MayMove, armed_after, armed_with, deeds_move, keys_move, life_move, lower_move, move_to, numbers_move, paths_move, setup_move, state_move, Hand, told_to_streams}
+use Rattle.qc_state.specs.Lower.{bytes_came, datagrams_stepped, flight_dropped, frame_handed, handed_stop, packets_settled, ready_bytes, session_read, stream_of, streams_stepped, ids_stepped}
+use Rattle.qc_state.specs.Moves.{Move, Ack, Arm, Come, Confirm, Establish, Forget, Give, Learn, PeerCloses, Owe, Read, Ready, Shut, Tell, Token, Want, Write, MayMove, armed_after, armed_with, deeds_move, keys_move, life_move, lower_move, move_to, numbers_move, paths_move, setup_move, state_move, Hand, told_to_streams, Insert, Switch, Retire}
 use Rattle.qc_state.specs.Numbers.{next_number, number_acked}
-use Rattle.qc_state.specs.Paths.{path_kept}
-use Rattle.qc_laws.specs.PieceLaws.{Goes, Last, Outcome, Refused, applied_in, applied_with, close_outcome, gift_of, gifts_of, given_in, kind_outcome, outcome_of, payload_gifts, pieces_in, read_behind, read_outcome, refused_or, session_gift, unless_refused, unless_stopped, view_behind}
-use Rattle.qc_state.specs.Receiving.{acked_after, applied_after, close_given, closed_in_data, confirmed_after, crypto_stop, crypto_stop_of, end_after, expected_below, expected_space, items_after, left_after, payload_after, rearmed_after, settled_after, stop_in, Behind, close_after, ended_by, answered_after, bytes_given, kept_after, frame_after, course_with, handed_after, refused_after}
+use Rattle.qc_state.specs.Paths.{path_kept, path_named}
+use Rattle.qc_laws.specs.PieceLaws.{Goes, Last, Outcome, Refused, applied_in, applied_with, close_outcome, gift_of, gifts_of, given_in, kind_outcome, outcome_of, payload_gifts, pieces_in, read_behind, read_outcome, refused_or, session_gift, unless_refused, unless_stopped, view_behind, switched_behind}
+use Rattle.qc_state.specs.Receiving.{acked_after, applied_after, close_given, closed_in_data, confirmed_after, crypto_stop, crypto_stop_of, end_after, expected_below, expected_space, items_after, left_after, payload_after, rearmed_after, settled_after, stop_in, Behind, close_after, ended_by, answered_after, bytes_given, kept_after, frame_after, course_with, handed_after, refused_after, inserted_after, retired_after, switched_after}
 use Rattle.qc_state.specs.Receiving as receiving
 use Rattle.qc_state.specs.Recovering.{around_of, is_validated_by_peer, settled_by}
 use Rattle.qc_state.specs.Stopping.{encoding_error_at, given_after, stopped_after}
@@ -43,9 +43,17 @@ use Rattle.qc_state.proofs.Telling.{told_appends}
 use Rattle.qc_state.specs.StreamFrames.{acked_steps, lost_steps}
 use Rattle.qc_state.specs.Streams.{steps_of_frame, streams_stop}
 use Rattle.qc_streams.specs.Waits as steps
-use Rattle.qc_laws.proofs.StreamCalls.{handed_told, heard_state}
+use Rattle.qc_laws.proofs.StreamCalls.{handed_told, heard_state, named_state, retired_state}
 use Rattle.qc_state.specs.Datagrams.{tells_datagram}
 use Rattle.qc_datagrams.specs.Steps as datagram
+use Rattle.qc_cids.specs.Cids.{asks_one, next_token, token_by}
+use Rattle.qc_cids.specs.Steps as cids
+use Rattle.qc_frame.specs.declared.frames.NewConnectionId.{NewConnectionId}
+use Rattle.qc_ids.specs.CidQueue.{active_of}
+use Rattle.qc_ids.specs.LocalCids.{may_retire}
+use Rattle.qc_state.specs.Ids.{active_limit, insert_stop, lost_ids, retire_stop, switches_for}
+use Rattle.qc_state.specs.declared.setup.Setup.{Setup}
+use Rattle.rand_core.specs.Stream.{Stream}
 
 -- ---- lists of deeds
 
@@ -230,7 +238,7 @@ module _ {t : Types} where
     life = h.life;
     paths = ap (λ (p : Paths t.C). path_kept p after.path) h.paths;
     setup = h.setup;
-    lower = ap (λ (l : Lower t.S). streams_stepped (acked_steps after.acked ++ lost_steps after.lost) (packets_settled l after)) h.lower;
+    lower = ap (λ (l : Lower t.S). ids_stepped (lost_ids after.lost) (streams_stepped (acked_steps after.acked ++ lost_steps after.lost) (packets_settled l after))) h.lower;
   }
 
   along_hand : (f : FrameValue) (v : View t) (a : At t) → Along v a.state → Along (state_move (Hand f) v) (move_to (Hand f) a).state
@@ -242,6 +250,40 @@ module _ {t : Types} where
     paths = h.paths;
     setup = h.setup;
     lower = ap (λ (l : Lower t.S). frame_handed f l) h.lower;
+  }
+
+  along_insert : (new : NewConnectionId) (v : View t) (a : At t) → Along v a.state → Along (state_move (Insert new) v) (move_to (Insert new) a).state
+  unfolding move_to state_move numbers_move keys_move life_move paths_move setup_move lower_move
+  along_insert new v a h = record {
+    numbers = h.numbers;
+    keys = h.keys;
+    life = named_state (token_by new a.state.lower.ids.remote) a.state.life a.state.paths.current.remote ∙ h.life ∙ sym (named_state (token_by new v.lower.ids.remote) v.life v.paths.current.remote);
+    paths = λ j. path_named (h.paths j) (active_of (cids.after_step (cids.NewCame new) (h.lower j).ids).remote);
+    setup = h.setup;
+    lower = ap (λ (l : Lower t.S). ids_stepped (cids.NewCame new ∷ []) l) h.lower;
+  }
+
+  along_switch : (v : View t) (a : At t) → Along v a.state → Along (state_move Switch v) (move_to Switch a).state
+  unfolding move_to state_move numbers_move keys_move life_move paths_move setup_move lower_move
+  along_switch v a h = record {
+    numbers = h.numbers;
+    keys = h.keys;
+    life = named_state (next_token a.state.lower.ids.remote) a.state.life a.state.paths.current.remote ∙ h.life ∙ sym (named_state (next_token v.lower.ids.remote) v.life v.paths.current.remote);
+    paths = λ j. path_named (h.paths j) (active_of (cids.after_step cids.Switched (h.lower j).ids).remote);
+    setup = h.setup;
+    lower = ap (λ (l : Lower t.S). ids_stepped (cids.Switched ∷ []) l) h.lower;
+  }
+
+  along_retire : (time n : ℕ) (v : View t) (a : At t) → Along v a.state → Along (state_move (Retire time n) v) (move_to (Retire time n) a).state
+  unfolding move_to state_move numbers_move keys_move life_move paths_move setup_move lower_move
+  along_retire time n v a h = record {
+    numbers = h.numbers;
+    keys = h.keys;
+    life = retired_state (may_retire n a.state.lower.ids.local) a.state.life time n (asks_one (active_limit a.state.setup.peer) n a.state.lower.ids) ∙ h.life
+        ∙ sym (retired_state (may_retire n v.lower.ids.local) v.life time n (asks_one (active_limit v.setup.peer) n v.lower.ids));
+    paths = h.paths;
+    setup = h.setup;
+    lower = λ j. ids_stepped (cids.RetireCame (active_limit (h.setup j).peer) n ∷ []) (h.lower j);
   }
 
   -- a frame is neither of the streams nor of the datagrams
@@ -344,6 +386,43 @@ module _ {t : Types} (m : Meaning t) (coming : Coming) (id : SpaceId) where
       subst (λ (l : Lower t.S). Leaves gifts (state_move (Hand f) v) (unless_stopped (handed_stop f l)) a (refused_after coming.time stop b)) along.lower
       (stopped_leaves gifts (state_move (Hand f) v) stop a b gave (along_hand f v a along))
 
+  -- the ids take a NEW_CONNECTION_ID, or refuse it
+  switched_leaves : (gifts : List Did) (switches : Bool) (v : View t) (a b : At t) → Gives gifts a b → Along v b.state → Leaves gifts (switched_behind switches v) Goes a (receiving.Goes (switched_after switches b))
+  unfolding deeds_move
+  switched_leaves gifts true v a b gave along = (gives_quiet gifts a b (move_to Switch b) gave (gives_move [] Switch b refl refl), along_switch v b along)
+  switched_leaves gifts false v a b gave along = (gave, along)
+
+  taken_leaves : (gifts : List Did) (switches : Bool) (v : View t) (stop : Option TransportError) (a b : At t) → Gives gifts a b → Along v b.state →
+      Leaves gifts (switched_behind switches v) (unless_stopped stop) a (ended_by coming.time stop (λ c. receiving.Goes (switched_after switches c)) b)
+  taken_leaves gifts switches v None a b gave along = switched_leaves gifts switches v a b gave along
+  taken_leaves gifts switches v (Some error) a b gave along = gives_quiet gifts a b _ gave (stopped_quiet coming.time error b)
+
+  inserted_leaves : (v : View t) (new : NewConnectionId) (a : At t) → Along v a.state →
+      Leaves (did.Gave layer.Ids (spelling (frames.NewConnectionId new)) ∷ []) (switched_behind (switches_for v.setup.fixed.side new v.lower.ids) (state_move (Insert new) v)) (unless_stopped (insert_stop new v.lower.ids)) a
+      (inserted_after coming.time new a)
+  unfolding inserted_after deeds_move
+  inserted_leaves v new a along =
+      let gifts : List Did = did.Gave layer.Ids (spelling (frames.NewConnectionId new)) ∷ [] in
+      let w : View t = state_move (Insert new) v in
+      let b : At t = move_to (Insert new) a in
+      let gave : Gives gifts a b = gives_move gifts (Insert new) a refl refl in
+      subst (λ (l : Lower t.S). Leaves gifts (switched_behind (switches_for v.setup.fixed.side new l.ids) w) (unless_stopped (insert_stop new l.ids)) a (inserted_after coming.time new a)) along.lower
+      (subst (λ (x : Setup Stream). Leaves gifts (switched_behind (switches_for x.fixed.side new a.state.lower.ids) w) (unless_stopped (insert_stop new a.state.lower.ids)) a (inserted_after coming.time new a)) along.setup
+      (taken_leaves gifts (switches_for a.state.setup.fixed.side new a.state.lower.ids) w (insert_stop new a.state.lower.ids) a b gave (along_insert new v a along)))
+
+  -- and a RETIRE_CONNECTION_ID
+  retired_leaves : (v : View t) (n : ℕ) (a : At t) → Along v a.state →
+      Leaves (did.Gave layer.Ids (spelling (frames.RetireConnectionId n)) ∷ []) (state_move (Retire coming.time n) v) (unless_stopped (retire_stop n v.lower.ids)) a (retired_after coming.time n a)
+  unfolding retired_after deeds_move
+  retired_leaves v n a along =
+      let gifts : List Did = did.Gave layer.Ids (spelling (frames.RetireConnectionId n)) ∷ [] in
+      let stop : Option TransportError = retire_stop n a.state.lower.ids in
+      let w : View t = state_move (Retire coming.time n) v in
+      let b : At t = move_to (Retire coming.time n) a in
+      let gave : Gives gifts a b = gives_move gifts (Retire coming.time n) a refl refl in
+      subst (λ (l : Lower t.S). Leaves gifts w (unless_stopped (retire_stop n l.ids)) a (refused_after coming.time stop b)) along.lower
+      (stopped_leaves gifts w stop a b gave (along_retire coming.time n v a along))
+
   -- an acknowledgement
   rearmed_quiet : (v : View t) (acked : List Entry) (a : At t) → Along v a.state → Gives [] a (rearmed_after coming.time acked a) × Along v (rearmed_after coming.time acked a).state
   rearmed_quiet v [] a along = (gives_here a, along)
@@ -414,6 +493,8 @@ module _ {t : Types} (m : Meaning t) (coming : Coming) (id : SpaceId) where
   kind_leaves v (frames.StreamDataBlocked stream limit) a along = handed_leaves v (frames.StreamDataBlocked stream limit) a along
   kind_leaves v (frames.StreamsBlocked dir limit) a along = handed_leaves v (frames.StreamsBlocked dir limit) a along
   kind_leaves v (frames.Datagram body) a along = handed_leaves v (frames.Datagram body) a along
+  kind_leaves v (frames.NewConnectionId new) a along = inserted_leaves v new a along
+  kind_leaves v (frames.RetireConnectionId n) a along = retired_leaves v n a along
   kind_leaves v f a along = (gives_here a, along_idle f v a.state (λ l. refl) along)
 
   -- a frame

@@ -27,7 +27,7 @@ use Rattle.qc_state.specs.Headline.{deeds_of}
 use Rattle.qc_laws.specs.InitialLaws.{LeavesInitial, NoneInitial, has_left, leaves_with, seals_initial}
 use Rattle.qc_state.specs.Keys.{NewKeys, NoKeys, HandshakeKeys, DataKeys, count_one, failure_counted, has_keys, key_used, keys_dropped, keys_given, epoch_in, form_in, has_keys_for}
 use Rattle.qc_state.specs.Life.{is_open, is_over}
-use Rattle.qc_state.specs.Moves.{Accept, Ask, Begin, PeerClosesToo, Enter, Establish, Expect, Fail, Finish, Forget, Give, IsTold, Learn, PeerCloses, MayMove, Move, Owe, Raise, Say, Seal, Shut, Skip, Take, Tell, Write, accepts, armed_with, deeds_move, enters, keys_move, move_to, setup_move, state_move, Hand, Call, Post}
+use Rattle.qc_state.specs.Moves.{Accept, Ask, Begin, PeerClosesToo, Enter, Establish, Expect, Fail, Finish, Forget, Give, IsTold, Learn, PeerCloses, MayMove, Move, Owe, Raise, Say, Seal, Shut, Skip, Take, Tell, Write, accepts, armed_with, deeds_move, enters, keys_move, move_to, setup_move, state_move, Hand, Call, Post, Insert, Retire, Issue}
 use Rattle.qc_state.specs.Numbers.{is_skipped, next_number}
 use Rattle.qc_state.specs.Paths.{is_blocked}
 use Rattle.qc_state.specs.Receiving.{accepted_after, admitted_after, datagram_after, fixed_after, is_close_item, is_eliciting_item, read_for_close, received_after, signs_of, verdict_after}
@@ -287,6 +287,8 @@ module _ {t : Types} where
   quiet_deeds P (Give why) s q = one_silent P (did.Lost why) refl refl refl
   quiet_deeds P (Say quiet) s q = one_silent P (did.Quiet quiet) refl refl refl
   quiet_deeds P (Hand frame) s q = handed_told (λ ds. SilentBut P ds) frame tt (λ body. one_silent P (did.Gave layer.Streams body) refl refl refl)
+  quiet_deeds P (Insert new) s q = one_silent P _ refl refl refl
+  quiet_deeds P (Retire time n) s q = one_silent P _ refl refl refl
   quiet_deeds P _ s q = tt
 
   quiet_move : (P : Type 0) (x : Move t) → IsQuiet P x → (a : At t) → Quiet P a (move_to x a)
@@ -546,6 +548,7 @@ module _ {t : Types} where
   input_leaves side m (input.Ping time) choice a may = move_leaves side (Ask a.state.keys.highest) tt a
   input_leaves side m (input.SendDatagram time body) choice a may = move_leaves side (Post (datagrams.Sent (datagram_limit a.state) body)) tt a
   input_leaves side m (input.RecvDatagram time) choice a may = move_leaves side (Post datagrams.Taken) tt a
+  input_leaves side m (input.Identifiers time given) choice a may = move_leaves side (Issue time given) tt a
   input_leaves side m i choice a may = called_input (Leaves side) (leaves_here side) (leaves_next side) (λ x b h. move_leaves side (Call x) tt b) i choice.read a may
 
   -- what the law says over deeds

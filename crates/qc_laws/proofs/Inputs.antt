@@ -9,7 +9,7 @@ use Rattle.qc_state.specs.declared.life.State.TheVariants.{Drained}
 use Rattle.qc_state.specs.Forms.{number_space}
 use Rattle.qc_state.specs.Headline.{is_datagram}
 use Rattle.qc_state.specs.Life.{is_open}
-use Rattle.qc_state.specs.Moves.{Move, MayMove, Arm, Ask, Begin, Clock, Finish, Fire, Forget, Give, Pace, Raise, Release, ReportConnected, ReportDrained, ReportLost, ReportReady, ReportNotice, ReportNotices, Say, Seal, Shut, Skip, Take, keys_move, life_move, move_to, numbers_move, state_move, Call, ReportStream, ReportStreams, Post, ReportHeard, ReportAllHeard}
+use Rattle.qc_state.specs.Moves.{Move, MayMove, Arm, Ask, Begin, Clock, Finish, Fire, Forget, Give, Pace, Raise, Release, ReportConnected, ReportDrained, ReportLost, ReportReady, ReportNotice, ReportNotices, Say, Seal, Shut, Skip, Take, keys_move, life_move, move_to, numbers_move, state_move, Call, ReportStream, ReportStreams, Post, ReportHeard, ReportAllHeard, Issue, Outlive, Want}
 use Rattle.qc_state.specs.Numbers.{next_number}
 use Rattle.qc_state.specs.Run.{IsAllowed, close_after, input_after, datagram_limit}
 use Rattle.qc_state.specs.Sending.{Choice, packet_size}
@@ -51,6 +51,9 @@ IsOwn Pace = Unit {0}
 IsOwn Release = Unit {0}
 IsOwn (Begin id opens) = Unit {0}
 IsOwn Skip = Unit {0}
+IsOwn (Want time count) = Unit {0}
+IsOwn (Issue time given) = Unit {0}
+IsOwn Outlive = Unit {0}
 IsOwn (Shut time close) = Unit {0}
 IsOwn (Raise to) = to ≡ Drained
 IsOwn (Give why) = Unit {0}
@@ -66,6 +69,8 @@ timed_own (Fire after) r = tt
 timed_own (Arm at) r = tt
 timed_own Pace r = tt
 timed_own Release r = tt
+timed_own Outlive r = tt
+timed_own (Want time count) r = tt
 timed_own (Raise to) r = r
 timed_own (Give why) r = tt
 timed_own _ r = absurd r
@@ -140,6 +145,7 @@ module _ {t : Types} (R : At t → At t → Type 0) (here : (a : At t) → R a a
   holds_own m (input.Ping time) choice a none h = move (Ask a.state.keys.highest) tt a tt
   holds_own m (input.SendDatagram time body) choice a none h = move (Post (datagrams.Sent (datagram_limit a.state) body)) tt a refl
   holds_own m (input.RecvDatagram time) choice a none h = move (Post datagrams.Taken) tt a refl
+  holds_own m (input.Identifiers time given) choice a none h = move (Issue time given) tt a h
   holds_own m i choice a none h = called_input R here next (λ x. move (Call x) tt) i choice.read a h
 
 -- what holds of no move, of two moves one after the other, and of each move that an input makes, where it may be made, holds of an

@@ -21,7 +21,7 @@ use Rattle.qc_state.specs.Forms.{number_space}
 use Rattle.qc_laws.specs.KeyLaws.{IsWithinLimit, KeysHold}
 use Rattle.qc_state.specs.Keys.{NewKeys, NoKeys, HandshakeKeys, DataKeys, count_one, failure_counted, key_used, keys_dropped, keys_given, plain_usage, reaches_limit, ring_usage, ring_used, usage_of}
 use Rattle.qc_state.specs.Life.{is_open}
-use Rattle.qc_state.specs.Moves.{Move, Ask, Fail, Forget, Seal, Shut, Take, Write, keys_move, move_to, state_move, Call, Post}
+use Rattle.qc_state.specs.Moves.{Move, Ask, Fail, Forget, Seal, Shut, Take, Write, keys_move, move_to, state_move, Call, Post, Issue}
 use Rattle.qc_state.specs.Numbers.{next_number}
 use Rattle.qc_state.specs.Run.{IsAllowed, IsStep, Run, began, called, close_after, input_after, reported, step_after, time_of, datagram_limit}
 use Rattle.qc_state.specs.Sending.{MayTransmit, packet_size, transmit_after, Choice}
@@ -174,6 +174,7 @@ module _ {t : Types} where
   input_keeps m (input.Ping time) choice a may = move_keeps (Ask a.state.keys.highest) a tt
   input_keeps m (input.SendDatagram time body) choice a may = move_keeps (Post (datagrams.Sent (datagram_limit a.state) body)) a tt
   input_keeps m (input.RecvDatagram time) choice a may = move_keeps (Post datagrams.Taken) a tt
+  input_keeps m (input.Identifiers time given) choice a may = move_keeps (Issue time given) a tt
   input_keeps m i choice a may = called_input Keeps here next (λ x d k. move_keeps (Call x) d tt) i choice.read a may
 
   -- a step

@@ -1,5 +1,6 @@
 -- What is known of each move that an input makes, and what holds of each such move holds of the input.
-use Rattle.std.proofs.Common.{◌≡◌, ℕ, List, refl, ap, sym, ◌∙◌, Bool, true, false, if◌then◌else◌}
+use Rattle.std.proofs.Common.{◌≡◌, ℕ, List, refl, ap, sym, ◌∙◌, Bool, true, false, Some, if◌then◌else◌}
+use Rattle.std.specs.Prelude.{Ok}
 use Rattle.qc_base.specs.declared.side.SpaceId.{SpaceId}
 use Rattle.qc_frame.specs.Frame.{AckValue, FrameValue}
 use Rattle.qc_recovery.specs.Steps.{After, FiredAfter}
@@ -11,7 +12,7 @@ use Rattle.qc_state.specs.declared.life.Close.{Close}
 use Rattle.qc_state.specs.declared.life.State.TheVariants.{Drained}
 use Rattle.qc_state.specs.Forms.{number_space}
 use Rattle.qc_state.specs.Life.{is_open}
-use Rattle.qc_state.specs.Moves.{Ack, Ask, Clock, Fire, MayMove, Move, Raise, ReportConnected, ReportDrained, ReportLost, ReportReady, ReportNotice, ReportNotices, Seal, Shut, Take, move_to, Call, ReportStream, ReportStreams, Tell, Post, ReportHeard, ReportAllHeard}
+use Rattle.qc_state.specs.Moves.{Ack, Ask, Clock, Fire, MayMove, Move, Raise, ReportConnected, ReportDrained, ReportLost, ReportReady, ReportNotice, ReportNotices, Seal, Shut, Take, move_to, Call, ReportStream, ReportStreams, Tell, Post, ReportHeard, ReportAllHeard, Issue, Learn}
 use Rattle.qc_state.specs.Numbers.{next_number}
 use Rattle.qc_state.specs.Receiving.{datagram_after}
 use Rattle.qc_state.specs.Recovering.{fired_by, settled_by}
@@ -34,9 +35,10 @@ use Rattle.qc_frame.specs.declared.frames.FrameOf.TheVariants as frames
 use Rattle.qc_laws.specs.StreamsLaws.{is_streams_call}
 use Rattle.qc_datagrams.specs.Steps as datagrams
 
--- a deed that tells of no gift to the streams: these are told of with the move that hands them a frame
+-- a deed that tells of no gift to the streams or to the ids: these are told of with the move that hands them a frame
 abbrev pub IsElsewhere : Did → Type 0
 IsElsewhere (did.Gave layer.Streams body) = ⊥
+IsElsewhere (did.Gave layer.Ids body) = ⊥
 IsElsewhere _ = Unit {0}
 
 unread_elsewhere : (d : Did) → IsUnread d → IsElsewhere d
@@ -47,9 +49,14 @@ none_to_streams : (f : FrameValue) → IsGivenTo layer.Streams f → ⊥
 none_to_streams (frames.Ack ack) h = h
 none_to_streams _ h = h
 
+none_to_ids : (f : FrameValue) → IsGivenTo layer.Ids f → ⊥
+none_to_ids (frames.Ack ack) h = h
+none_to_ids _ h = h
+
 module _ {t : Types} where
   told_elsewhere : (o : OpenPacket) (d : Did) (s : View t) → IsToldOf o d s → IsElsewhere d
   told_elsewhere o (did.Gave layer.Streams body) s h = none_to_streams h.0 h.2
+  told_elsewhere o (did.Gave layer.Ids body) s h = none_to_ids h.0 h.2
   told_elsewhere o _ s h = tt
 
   -- an acknowledgement settles what recovery makes of an ACK at a time
@@ -64,8 +71,8 @@ module _ {t : Types} where
     pub is : after ≡ fired_by m time s
 
   -- what is known of a move that an input makes, beside those with which a packet is taken and sealed: it is no report, a life that rises
-  -- by itself rises to its end, what acknowledgements and the loss timer leave is what recovery makes of them, and what is told by itself is
-  -- no gift to the streams
+  -- by itself rises to its end, parameters are those that the session gives, what acknowledgements and the loss timer leave is what recovery
+  -- makes of them, and what is told by itself is no gift to the streams or to the ids
   abbrev pub IsKnownMove : Meaning t → Move t → View t → Type 0
   IsKnownMove m (Clock time) s = ⊥
   IsKnownMove m (Take id fs) s = ⊥
@@ -73,6 +80,7 @@ module _ {t : Types} where
   IsKnownMove m (Ack id n after) s = IsSettledBy m id after s
   IsKnownMove m (Fire after) s = IsFiredBy m after s
   IsKnownMove m (Raise to) s = to ≡ Drained
+  IsKnownMove m (Learn parameters) s = m.parameters s.lower.session ≡ Ok (Some parameters)
   IsKnownMove m (Tell d) s = IsElsewhere d
   IsKnownMove m ReportReady s = ⊥
   IsKnownMove m ReportConnected s = ⊥
@@ -97,6 +105,7 @@ module _ {t : Types} where
   packet_known m o (Ack id n after) s h = settled_known m o id n after s h
   packet_known m o (Fire after) s h = absurd h
   packet_known m o (Raise to) s h = absurd h
+  packet_known m o (Learn parameters) s h = h
   packet_known m o (Tell d) s h = told_elsewhere o d s h
   packet_known m o ReportReady s h = absurd h
   packet_known m o ReportConnected s h = absurd h
@@ -118,6 +127,7 @@ module _ {t : Types} where
   outside_known m at_time (Ack id n after) s h = absurd h
   outside_known m at_time (Fire after) s h = absurd h
   outside_known m at_time (Raise to) s h = h
+  outside_known m at_time (Learn parameters) s h = absurd h
   outside_known m at_time (Tell d) s h = unread_elsewhere d h
   outside_known m at_time ReportReady s h = absurd h
   outside_known m at_time ReportConnected s h = absurd h
@@ -139,6 +149,7 @@ module _ {t : Types} where
   expiry_known m (Ack id n after) s h = absurd h
   expiry_known m (Fire after) s h = absurd h
   expiry_known m (Raise to) s h = h
+  expiry_known m (Learn parameters) s h = absurd h
   expiry_known m (Tell d) s h = absurd h
   expiry_known m ReportReady s h = absurd h
   expiry_known m ReportConnected s h = absurd h
@@ -160,6 +171,7 @@ module _ {t : Types} where
   sending_known m (Ack id n after) s h = absurd h
   sending_known m (Fire after) s h = absurd h
   sending_known m (Raise to) s h = h
+  sending_known m (Learn parameters) s h = absurd h
   sending_known m (Tell d) s h = absurd h
   sending_known m ReportReady s h = absurd h
   sending_known m ReportConnected s h = absurd h
@@ -173,7 +185,7 @@ module _ {t : Types} where
   sending_known m ReportDrained s h = absurd h
   sending_known m _ s h = tt
 
--- an input is a call of the application's, of streams or datagrams
+-- an input is a call of the application's, of streams or datagrams, or gives ids
 abbrev pub is_called : Input → Bool
 is_called (input.Datagram time remote ecn bytes) = false
 is_called (input.Timeout time) = false
@@ -195,26 +207,31 @@ uncalled_streams _ h = cc
 abbrev pub IsUncalled : {t : Types} → Move t → Type 0
 IsUncalled (Call x) = ⊥
 IsUncalled (Post x) = ⊥
+IsUncalled (Issue time given) = ⊥
 IsUncalled _ = Unit {0}
 
 packet_uncalled : {t : Types} (m : Meaning t) (o : OpenPacket) (x : Move t) (s : View t) → IsInPacket m o x s → IsUncalled x
 packet_uncalled m o (Call x) s h = absurd h
 packet_uncalled m o (Post x) s h = absurd h
+packet_uncalled m o (Issue time given) s h = absurd h
 packet_uncalled m o _ s h = tt
 
 outside_uncalled : {t : Types} (time : ℕ) (x : Move t) (s : View t) → IsOutside time x s → IsUncalled x
 outside_uncalled time (Call x) s h = absurd h
 outside_uncalled time (Post x) s h = absurd h
+outside_uncalled time (Issue at given) s h = absurd h
 outside_uncalled time _ s h = tt
 
 expiry_uncalled : {t : Types} (x : Move t) → IsExpiry x → IsUncalled x
 expiry_uncalled (Call x) h = absurd h
 expiry_uncalled (Post x) h = absurd h
+expiry_uncalled (Issue time given) h = absurd h
 expiry_uncalled _ h = tt
 
 sending_uncalled : {t : Types} (x : Move t) → IsSending x → IsUncalled x
 sending_uncalled (Call x) h = absurd h
 sending_uncalled (Post x) h = absurd h
+sending_uncalled (Issue time given) h = absurd h
 sending_uncalled _ h = tt
 
 -- what holds of no move, of two moves one after the other, of each move that is known so and is no such call, where it may be made, and of
@@ -262,4 +279,5 @@ module _ {t : Types} (m : Meaning t) (R : At t → At t → Type 0) (here : (a :
   known_input (input.Ping time) choice a h = other (input.Ping time) choice a refl h
   known_input (input.SendDatagram time body) choice a h = move (Post (datagrams.Sent (datagram_limit a.state) body)) a tt refl
   known_input (input.RecvDatagram time) choice a h = move (Post datagrams.Taken) a tt refl
+  known_input (input.Identifiers time given) choice a h = move (Issue time given) a tt h
   known_input i choice a h = called_input R here next (λ x b may. move (Call x) b tt may) i choice.read a h

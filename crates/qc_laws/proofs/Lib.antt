@@ -9,6 +9,7 @@ pub mod EventsAsked
 pub mod Gifts
 pub mod HarmlessBytes
 pub mod HarmlessTests
+pub mod IdsFold
 pub mod IdsHold
 pub mod Inputs
 pub mod Joins
@@ -20,6 +21,7 @@ pub mod OwnInputs
 pub mod PathsHold
 pub mod PieceLaws
 pub mod PostsFold
+pub mod PostsSealed
 pub mod PostsTaken
 pub mod Receives
 pub mod Steps

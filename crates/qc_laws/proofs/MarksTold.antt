@@ -30,7 +30,7 @@ use Rattle.qc_state.specs.Acks.{is_ack, told_counts}
 use Rattle.qc_state.specs.Forms.{number_space}
 use Rattle.qc_state.specs.Life.{is_open, is_over}
 use Rattle.qc_laws.specs.MarkLaws.{AcksTell, DeedsTell, EachTold, SealsTold, StepsTell, Tally, carried_mark, nothing_tallied, tally_accepted, tally_behind, tally_judged, tally_of, tally_since, tally_told}
-use Rattle.qc_state.specs.Moves.{Move, Clock, Ask, Take, Seal, Forget, Enter, Expect, Fail, Accept, Fix, Hear, Ack, Fire, Arm, Pace, Release, Begin, Skip, Come, Read, Write, Ready, Token, Learn, Want, Confirm, Establish, Tell, PeerClosesToo, PeerCloses, Owe, Shut, Raise, Give, Say, Finish, ReportReady, ReportConnected, ReportLost, ReportNotice, ReportNotices, ReportDrained, accepts, enters, state_move, move_to, deeds_move, waiting_move, numbers_move, keys_move, life_move, MayMove, IsTold, told, Hand, Call, ReportStream, ReportStreams, told_to_streams, Post, ReportHeard, ReportAllHeard}
+use Rattle.qc_state.specs.Moves.{Move, Clock, Ask, Take, Seal, Forget, Enter, Expect, Fail, Accept, Fix, Hear, Ack, Fire, Arm, Pace, Release, Begin, Skip, Come, Read, Write, Ready, Token, Learn, Want, Confirm, Establish, Tell, PeerClosesToo, PeerCloses, Owe, Shut, Raise, Give, Say, Finish, ReportReady, ReportConnected, ReportLost, ReportNotice, ReportNotices, ReportDrained, accepts, enters, state_move, move_to, deeds_move, waiting_move, numbers_move, keys_move, life_move, MayMove, IsTold, told, Hand, Call, ReportStream, ReportStreams, told_to_streams, Post, ReportHeard, ReportAllHeard, Insert, Switch, Retire, Issue, Outlive}
 use Rattle.qc_state.specs.Numbers.{next_number}
 use Rattle.qc_state.specs.Offers.{packet_begun}
 use Rattle.qc_state.proofs.Probed.{begun_holds}
@@ -353,6 +353,11 @@ module _ {t : Types} where
   counted_move id mark (Finish bytes) a h k = silent_counted id mark (Finish bytes) a refl refl
   counted_move id mark (Say q) a h k = plain_counted id mark (Say q) _ a refl (λ y. tt) (λ y. refl) refl
   counted_move id mark (Hand frame) a h k = handed_counted id mark frame a
+  counted_move id mark (Insert new) a h k = plain_counted id mark (Insert new) _ a refl (λ y. tt) (λ y. refl) refl
+  counted_move id mark Switch a h k = silent_counted id mark Switch a refl refl
+  counted_move id mark (Retire time n) a h k = plain_counted id mark (Retire time n) _ a refl (λ y. tt) (λ y. refl) refl
+  counted_move id mark (Issue time given) a h k = silent_counted id mark (Issue time given) a refl refl
+  counted_move id mark Outlive a h k = silent_counted id mark Outlive a refl refl
   counted_move id mark (Call x) a h k = silent_counted id mark (Call x) a refl refl
   counted_move id mark (Post x) a h k = silent_counted id mark (Post x) a refl refl
   counted_move id mark ReportReady a h k = silent_counted id mark ReportReady a refl refl
@@ -430,6 +435,8 @@ module _ {t : Types} where
   timed_telling (Arm at) s r = tt
   timed_telling Pace s r = tt
   timed_telling Release s r = tt
+  timed_telling Outlive s r = tt
+  timed_telling (Want time count) s r = tt
   timed_telling (Raise to) s r = tt
   timed_telling (Give why) s r = tt
   timed_telling _ s r = absurd r
@@ -445,6 +452,7 @@ module _ {t : Types} where
   counted_input id m (input.Ping time) choice a h = counted_move id None (Ask a.state.keys.highest) a tt tt
   counted_input id m (input.SendDatagram time body) choice a h = counted_move id None (Post (datagrams.Sent (datagram_limit a.state) body)) a refl tt
   counted_input id m (input.RecvDatagram time) choice a h = counted_move id None (Post datagrams.Taken) a refl tt
+  counted_input id m (input.Identifiers time given) choice a h = counted_move id None (Issue time given) a h tt
   counted_input id m i choice a h = called_input (Counted id None) (counted_here id None) (counted_next id None) (λ x b may. counted_move id None (Call x) b may tt) i choice.read a h
 
   -- ---- runs

@@ -3,7 +3,7 @@ use Rattle.std.proofs.Common.{◌≡◌, ℕ, [], refl, ap, ◌∙◌, false}
 use Rattle.qc_state.specs.declared.input.Input.{Input}
 use Rattle.qc_state.specs.declared.trace.Step.{Step}
 use Rattle.qc_state.specs.Headline.{is_datagram}
-use Rattle.qc_state.specs.Moves.{Move, Arm, Ask, Begin, Finish, Fire, Forget, Give, Pace, Raise, Release, Say, Seal, Shut, Skip, Take, MayMove, deeds_move, move_to, Call, Post}
+use Rattle.qc_state.specs.Moves.{Move, Arm, Ask, Begin, Finish, Fire, Forget, Give, Pace, Raise, Release, Say, Seal, Shut, Skip, Take, MayMove, deeds_move, move_to, Call, Post, Issue, Outlive, Want}
 use Rattle.qc_laws.specs.PieceLaws.{given_in, pieces_in}
 use Rattle.qc_state.specs.Run.{IsStep, began, called, time_of}
 use Rattle.qc_state.specs.Types.{Types, Meaning}
@@ -24,6 +24,9 @@ module _ {t : Types} where
   own_quiet Release r a may = gives_move [] Release a refl refl
   own_quiet (Begin id opens) r a may = gives_move [] (Begin id opens) a refl refl
   own_quiet Skip r a may = gives_move [] Skip a refl refl
+  own_quiet (Want time count) r a may = gives_move [] (Want time count) a refl refl
+  own_quiet (Issue time given) r a may = gives_move [] (Issue time given) a refl refl
+  own_quiet Outlive r a may = gives_move [] Outlive a refl refl
   own_quiet (Shut time close) r a may = gives_move [] (Shut time close) a refl refl
   own_quiet (Raise to) r a may = gives_move [] (Raise to) a refl refl
   own_quiet (Give why) r a may = gives_move [] (Give why) a refl refl

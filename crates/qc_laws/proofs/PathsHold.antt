@@ -33,11 +33,11 @@ use Rattle.qc_state.specs.declared.trace.Step.{Step}
 use Rattle.qc_state.specs.declared.transmit.TheConstants.{DATAGRAM_SIZE}
 use Rattle.qc_state.specs.Forms.{number_space}
 use Rattle.qc_state.specs.Life.{is_open}
-use Rattle.qc_state.specs.Moves.{Accept, Ack, Arm, Come, Confirm, PeerClosesToo, Enter, Establish, Expect, Fail, Fire, Fix, Forget, Give, Hear, Learn, PeerCloses, MayMove, Move, Owe, Pace, Raise, Read, Ready, Release, Say, Seal, Shut, Take, Tell, Token, Want, Write, armed_after, armed_with, deeds_move, move_to, paths_move, state_move, told, Begin, Skip, Hand, told_to_streams}
+use Rattle.qc_state.specs.Moves.{Accept, Ack, Arm, Come, Confirm, PeerClosesToo, Enter, Establish, Expect, Fail, Fire, Fix, Forget, Give, Hear, Learn, PeerCloses, MayMove, Move, Owe, Pace, Raise, Read, Ready, Release, Say, Seal, Shut, Take, Tell, Token, Want, Write, armed_after, armed_with, deeds_move, move_to, paths_move, state_move, told, Begin, Skip, Hand, told_to_streams, Insert, Switch, Retire, Outlive}
 use Rattle.qc_state.specs.Numbers.{next_number, received_number}
 use Rattle.qc_state.specs.Headline.{deeds_of}
 use Rattle.qc_laws.specs.PathLaws.{PathHolds, all_from, bytes_from, is_handshake_admitted}
-use Rattle.qc_state.specs.Paths.{is_blocked, path_accepted, path_idle, path_kept, path_received, path_sent, path_spun, peer_fixed, same_address, spun_by}
+use Rattle.qc_state.specs.Paths.{is_blocked, path_accepted, path_idle, path_kept, path_received, path_sent, path_spun, peer_fixed, same_address, spun_by, path_named}
 use Rattle.qc_state.specs.Receiving.{counted_after, cut_of, datagram_after, first_after, first_token, heard_after, is_readable, lets_in, pieces_after}
 use Rattle.qc_state.specs.Run.{IsAllowed, IsStep, Run, began, called, close_after, input_after, reported, step_after, time_of, called_all}
 use Rattle.qc_state.specs.Sending.{MayTransmit, drops_initial, initial_left, packet_size, spared_after, transmit_after, Choice, Sent, Ending, Went, Hushed, Died, ending_after, packets_after, Going, going_from, MayAll, MayEnd, handshake_left, finished_after, gone_after}
@@ -254,7 +254,7 @@ module _ {t : Types} where
 
   -- the moves of a packet that came
   still_move : (x : Move t) → IsOfPiece x → (a : At t) → MayMove x a.state → StillAt a (move_to x a)
-  unfolding paths_move deeds_move path_kept peer_fixed
+  unfolding paths_move deeds_move path_kept path_named peer_fixed
   still_move (Forget id) r a h = silent_at (Forget id) a refl (kept_still a.state.paths (path_dropped id a.state.paths.current.kept)) (λ v. inl v)
   still_move (Enter id n v) r a h = deed_at (Enter id n v) _ a refl (still_here a.state.paths) (λ v. inl v)
   still_move Fail r a h = silent_at Fail a refl (still_here a.state.paths) (λ v. inl v)
@@ -271,7 +271,7 @@ module _ {t : Types} where
   still_move Ready r a h = silent_at Ready a refl (still_here a.state.paths) (λ v. inl v)
   still_move (Token token) r a h = silent_at (Token token) a refl (still_here a.state.paths) (λ v. inl v)
   still_move (Want time count) r a h = silent_at (Want time count) a refl (still_here a.state.paths) (λ v. inl v)
-  still_move (Learn parameters) r a h = silent_at (Learn parameters) a refl (still_here a.state.paths) (λ v. inl v)
+  still_move (Learn parameters) r a h = silent_at (Learn parameters) a refl (record { same = refl; received = refl; sent = refl; kept = λ v. v }) (λ v. inl v)
   still_move Confirm r a h = silent_at Confirm a refl (still_here a.state.paths) (λ v. inl v)
   still_move Establish r a h = deed_at Establish _ a refl (still_here a.state.paths) (λ v. inl v)
   still_move (Tell d) r a h = deed_at (Tell d) d a refl (still_here a.state.paths) (λ v. inl v)
@@ -282,6 +282,9 @@ module _ {t : Types} where
   still_move (Raise to) r a h = deed_at (Raise to) _ a refl (still_here a.state.paths) (λ v. inl v)
   still_move (Give why) r a h = deed_at (Give why) _ a refl (still_here a.state.paths) (λ v. inl v)
   still_move (Hand frame) r a h = handed_at frame a
+  still_move (Insert new) r a h = deed_at (Insert new) _ a refl (record { same = refl; received = refl; sent = refl; kept = λ v. v }) (λ v. inl v)
+  still_move Switch r a h = silent_at Switch a refl (record { same = refl; received = refl; sent = refl; kept = λ v. v }) (λ v. inl v)
+  still_move (Retire time n) r a h = deed_at (Retire time n) _ a refl (still_here a.state.paths) (λ v. inl v)
   still_move _ r a h = absurd r
 
   -- the packets of a datagram
@@ -453,6 +456,8 @@ module _ {t : Types} where
   timed_paths (Arm at) r a h = (still_here a.state.paths, refl)
   timed_paths Pace r a h = (still_here a.state.paths, refl)
   timed_paths Release r a h = (still_here a.state.paths, refl)
+  timed_paths Outlive r a h = (still_here a.state.paths, refl)
+  timed_paths (Want time count) r a h = (still_here a.state.paths, refl)
   timed_paths (Raise to) r a h = (still_here a.state.paths, refl)
   timed_paths (Give why) r a h = (still_here a.state.paths, refl)
   timed_paths _ r a h = absurd r
@@ -482,6 +487,7 @@ module _ {t : Types} where
   path_input m (input.Ping time) choice s may = unchanged 0 _ s.paths
   path_input m (input.SendDatagram time body) choice s may = unchanged 0 _ s.paths
   path_input m (input.RecvDatagram time) choice s may = unchanged 0 _ s.paths
+  path_input m (input.Identifiers time given) choice s may = unchanged 0 _ s.paths
   path_input m i choice s may = path_called i choice s may
 
   -- a step

@@ -2,9 +2,10 @@
 use Rattle.std.proofs.Common.{◌≡◌, ℕ, ◌+◌, List, [], ◌∷◌, ◌++◌, refl, ap, sym, ◌∙◌, subst, Bool, true, false, Some, None, if◌then◌else◌, append_assoc, append-nil, arith}
 use Rattle.std.specs.Prelude.{map, is_none, option_to_list, Option}
 use Rattle.std.specs.Option.{option_map}
+use Rattle.std.specs.declared.net.SocketAddr.{SocketAddr}
 use Rattle.qc_base.specs.declared.side.SpaceId.{SpaceId}
 use Rattle.qc_datagrams.specs.declared.datagrams.Datagrams.{Datagrams}
-use Rattle.qc_datagrams.specs.Steps.{Step, Sent, Taken, after, after_step}
+use Rattle.qc_datagrams.specs.Steps.{Step, Sealed, Sent, Taken, after, after_step}
 use Rattle.qc_flight.specs.declared.sent.SentPacket.{SentPacket}
 use Rattle.qc_frame.specs.Frame.{FrameValue}
 use Rattle.qc_frame.specs.declared.frames.FrameOf.TheVariants as frames
@@ -21,12 +22,12 @@ use Rattle.qc_state.specs.declared.life.ConnectionError.{ConnectionError}
 use Rattle.qc_state.specs.declared.life.Life.{Life}
 use Rattle.qc_state.specs.declared.lower.Lower.{Lower}
 use Rattle.qc_state.specs.declared.trace.Step.{Step as TraceStep}
-use Rattle.qc_state.specs.Datagrams.{datagram_steps, tells_datagram}
+use Rattle.qc_state.specs.Datagrams.{datagram_steps, sealed_datagrams, tells_datagram}
 use Rattle.qc_state.specs.Flight.{flown_packet}
 use Rattle.qc_state.specs.Forms.{number_space}
-use Rattle.qc_state.specs.Life.{connected_event, data_ready, datagram_heard, event_if, identifiers_wanted, life_closed, life_drained, life_established, life_raised, lost_event, ready_event, reason_given, token_learned, ready_reported, connected_reported, all_heard_reported, lost_reported, notices_reported, drained_reported}
-use Rattle.qc_state.specs.Lower.{bytes_came, datagrams_stepped, events_told, flight_dropped, frame_handed, limits_learned, packet_flown, packets_settled, session_read, session_wrote, streams_closed, streams_stepped, timer_fired}
-use Rattle.qc_state.specs.Moves.{Begin, Call, Give, Hand, IsTold, MayMove, Move, Post, ReportHeard, ReportAllHeard, ReportStream, ReportStreams, Seal, Take, Tell, deeds_move, life_move, lower_move, move_to, state_move, told_to_streams}
+use Rattle.qc_state.specs.Life.{connected_event, data_ready, datagram_heard, event_if, identifiers_wanted, life_closed, life_drained, life_established, life_raised, lost_event, ready_event, reason_given, token_learned, ready_reported, connected_reported, all_heard_reported, lost_reported, notices_reported, drained_reported, retirement_told, token_told}
+use Rattle.qc_state.specs.Lower.{bytes_came, datagrams_stepped, events_told, flight_dropped, frame_handed, limits_learned, packet_flown, packets_settled, session_read, session_wrote, streams_closed, streams_stepped, timer_fired, frames_sealed, ids_stepped}
+use Rattle.qc_state.specs.Moves.{Begin, Call, Give, Hand, IsTold, MayMove, Move, Post, ReportHeard, ReportAllHeard, ReportStream, ReportStreams, Seal, Take, Tell, deeds_move, life_move, lower_move, move_to, state_move, told_to_streams, Insert, Switch, Retire}
 use Rattle.qc_state.specs.Numbers.{next_number}
 use Rattle.qc_state.specs.Polls.{waiting_events}
 use Rattle.qc_state.specs.Run.{IsAllowed, IsStep, Run, answer_of, began, called, called_all, datagram_limit, input_after, reported, time_of}
@@ -36,31 +37,52 @@ use Rattle.qc_state.specs.Streams.{calls_of, events_of}
 use Rattle.qc_streams.specs.Waits as streams
 use Rattle.qc_state.specs.Types.{Types, Meaning}
 use Rattle.qc_state.specs.View.{View, At}
+use Rattle.qc_state.proofs.DatagramSteps.{posts_append}
 use Rattle.qc_state.proofs.Probed.{begun_streams}
 use Rattle.qc_state.proofs.Telling.{told_appends}
+use Rattle.qc_state.proofs.Transmitted.{IsSealable}
 use Rattle.qc_laws.specs.EventLaws.{once}
-use Rattle.qc_laws.specs.PostLaws.{AreCame, ArePosts, FoldsPosts, MakesPosts, count_told, heard_in}
-use Rattle.qc_laws.specs.StreamsLaws.{given_to_streams, with_steps}
+use Rattle.qc_laws.specs.PostLaws.{AreOfDeeds, ArePosts, FoldsPosts, MakesPosts, count_told, heard_in}
+use Rattle.qc_laws.specs.StreamsLaws.{with_steps}
 use Rattle.qc_laws.proofs.KnownMoves.{IsElsewhere, IsKnownMove, IsUncalled, is_called, known_other}
 use Rattle.qc_laws.proofs.StreamCalls.{called_input}
-use Rattle.qc_laws.proofs.StreamsMade.{given_append}
+use Rattle.qc_cids.specs.Cids.{asks_one, next_token, token_by}
+use Rattle.qc_ids.specs.LocalCids.{may_retire}
+use Rattle.qc_state.specs.Ids.{active_limit}
 
 -- ---- steps and events, one list behind another
-
-after_append : (xs ys : List Step) (d : Datagrams) → after (xs ++ ys) d ≡ after ys (after xs d)
-unfolding after
-after_append [] ys d = refl
-after_append (x ∷ xs) ys d = after_append xs ys (after_step x d)
 
 told_append : (xs ys : List Step) (d : Datagrams) → count_told (xs ++ ys) d ≡ count_told xs d + count_told ys (after xs d)
 unfolding after
 told_append [] ys d = omega arith
 told_append (x ∷ xs) ys d = let more : count_told (xs ++ ys) (after_step x d) ≡ count_told xs (after_step x d) + count_told ys (after xs (after_step x d)) = told_append xs ys (after_step x d) in omega (arith, more)
 
-came_append : (bodies more : List (List ℕ)) (xs ys : List Step) → AreCame bodies xs → AreCame more ys → AreCame (bodies ++ more) (xs ++ ys)
-came_append [] more xs ys h g = subst (λ (zs : List Step). AreCame more (zs ++ ys)) (sym h) g
-came_append (body ∷ bodies) more xs ys h g =
-    (h.0, h.1 ++ ys, h.2, ap (λ (zs : List Step). zs ++ ys) h.3 ∙ append_assoc (datagram_steps h.0) h.1 ys, came_append bodies more h.1 ys h.4 g)
+deeds_append : (ds es : List Did) (xs ys : List Step) (d : Datagrams) → AreOfDeeds ds xs d → AreOfDeeds es ys (after xs d) → AreOfDeeds (ds ++ es) (xs ++ ys) d
+unfolding after
+deeds_append [] es xs ys d h g = subst (λ (zs : List Step). AreOfDeeds es (zs ++ ys) d) (sym h) (subst (λ (zs : List Step). AreOfDeeds es ys (after zs d)) h g)
+deeds_append (did.Gave layer.Streams body ∷ ds) es xs ys d h g =
+    let front : List Step = datagram_steps h.0 in
+    let behind : AreOfDeeds es ys (after h.1 (after front d)) = subst (λ (x : Datagrams). AreOfDeeds es ys x) (ap (λ (zs : List Step). after zs d) h.3 ∙ posts_append front h.1 d) g in
+    (h.0, h.1 ++ ys, h.2, ap (λ (zs : List Step). zs ++ ys) h.3 ∙ append_assoc front h.1 ys, deeds_append ds es h.1 ys (after front d) h.4 behind)
+deeds_append (did.Gave layer.Session body ∷ ds) es xs ys d h g = deeds_append ds es xs ys d h g
+deeds_append (did.Gave layer.Recovery body ∷ ds) es xs ys d h g = deeds_append ds es xs ys d h g
+deeds_append (did.Gave layer.Life body ∷ ds) es xs ys d h g = deeds_append ds es xs ys d h g
+deeds_append (did.Gave layer.Ids body ∷ ds) es xs ys d h g = deeds_append ds es xs ys d h g
+deeds_append (did.Sealed space n epoch early fs ∷ ds) es xs ys d h g =
+    let front : List Step = sealed_datagrams fs in
+    let behind : AreOfDeeds es ys (after h.0 (after front d)) = subst (λ (x : Datagrams). AreOfDeeds es ys x) (ap (λ (zs : List Step). after zs d) h.1 ∙ posts_append front h.0 d) g in
+    (h.0 ++ ys, ap (λ (zs : List Step). zs ++ ys) h.1 ∙ append_assoc front h.0 ys, h.2, deeds_append ds es h.0 ys (after front d) h.3 behind)
+deeds_append (did.Piece space number v ∷ ds) es xs ys d h g = deeds_append ds es xs ys d h g
+deeds_append (did.Rose life ∷ ds) es xs ys d h g = deeds_append ds es xs ys d h g
+deeds_append (did.Lost why ∷ ds) es xs ys d h g = deeds_append ds es xs ys d h g
+deeds_append (did.Quiet why ∷ ds) es xs ys d h g = deeds_append ds es xs ys d h g
+
+-- none of those with which frames are sealed is to be told
+sealed_untold : (fs : List FrameValue) (d : Datagrams) → count_told (sealed_datagrams fs) d ≡ 0
+unfolding sealed_datagrams
+sealed_untold [] d = refl
+sealed_untold (frames.Datagram body ∷ fs) d = let more : count_told (sealed_datagrams fs) (after_step Sealed d) ≡ 0 = sealed_untold fs (after_step Sealed d) in omega (arith, more)
+sealed_untold (_ ∷ fs) d = sealed_untold fs d
 
 heard_append : (es fs : List Event) → heard_in (es ++ fs) ≡ heard_in es + heard_in fs
 heard_append [] fs = omega arith
@@ -102,6 +124,17 @@ given_heard : (v : Life) (why : ConnectionError) (b : Bool) → (if b then recor
 given_heard v why true = refl
 given_heard v why false = refl
 
+-- so does what is told to the endpoint of ids
+named_heard : (o : Option (List ℕ)) (v : Life) (remote : SocketAddr) → (token_told v remote o).heard ≡ v.heard
+unfolding token_learned
+named_heard None v remote = refl
+named_heard (Some token) v remote = refl
+
+retired_heard : (b : Bool) (v : Life) (time n : ℕ) (more : Bool) → (if b then retirement_told v time n more else v).heard ≡ v.heard
+unfolding retirement_told
+retired_heard true v time n more = refl
+retired_heard false v time n more = refl
+
 -- a packet that is sealed leaves them
 flown_datagrams : {S : Type 0} → (owed : Bool) (l : Lower S) (id : SpaceId) (n : ℕ) (packet : SentPacket) → (if owed then l else packet_flown l id n packet).datagrams ≡ l.datagrams
 unfolding packet_flown
@@ -109,28 +142,29 @@ flown_datagrams true l id n packet = refl
 flown_datagrams false l id n packet = refl
 
 -- what is told of a frame is what the steps are that it makes
-frame_came : (frame : FrameValue) → AreCame (given_to_streams (told_to_streams frame)) (datagram_steps frame)
-frame_came (frames.ResetStream id code size) = (frames.ResetStream id code size, [], refl, refl, refl)
-frame_came (frames.StopSending id code) = (frames.StopSending id code, [], refl, refl, refl)
-frame_came (frames.Stream id offset fin body) = (frames.Stream id offset fin body, [], refl, refl, refl)
-frame_came (frames.MaxData limit) = (frames.MaxData limit, [], refl, refl, refl)
-frame_came (frames.MaxStreamData id limit) = (frames.MaxStreamData id limit, [], refl, refl, refl)
-frame_came (frames.MaxStreams dir count) = (frames.MaxStreams dir count, [], refl, refl, refl)
-frame_came (frames.Datagram body) = (frames.Datagram body, [], refl, refl, refl)
-frame_came _ = refl
+frame_came : (frame : FrameValue) (d : Datagrams) → AreOfDeeds (told_to_streams frame) (datagram_steps frame) d
+frame_came (frames.ResetStream id code size) d = (frames.ResetStream id code size, [], refl, refl, refl)
+frame_came (frames.StopSending id code) d = (frames.StopSending id code, [], refl, refl, refl)
+frame_came (frames.Stream id offset fin body) d = (frames.Stream id offset fin body, [], refl, refl, refl)
+frame_came (frames.MaxData limit) d = (frames.MaxData limit, [], refl, refl, refl)
+frame_came (frames.MaxStreamData id limit) d = (frames.MaxStreamData id limit, [], refl, refl, refl)
+frame_came (frames.MaxStreams dir count) d = (frames.MaxStreams dir count, [], refl, refl, refl)
+frame_came (frames.Datagram body) d = (frames.Datagram body, [], refl, refl, refl)
+frame_came _ d = refl
 
 frame_told : (frame : FrameValue) (d : Datagrams) → count_told (datagram_steps frame) d ≡ once (tells_datagram frame d)
 frame_told (frames.Datagram body) d = omega arith
 frame_told _ d = refl
 
--- what is told by itself gives them nothing
-told_none : (d : Did) → IsTold d → IsElsewhere d → given_to_streams (d ∷ []) ≡ []
-told_none (did.Piece space number v) h k = refl
-told_none (did.Gave layer.Session body) h k = refl
-told_none (did.Gave layer.Recovery body) h k = refl
-told_none (did.Gave layer.Life body) h k = refl
-told_none (did.Gave layer.Streams body) h k = absurd k
-told_none _ h k = absurd h
+-- what is told by itself makes none
+told_none : (deed : Did) (d : Datagrams) → IsTold deed → IsElsewhere deed → AreOfDeeds (deed ∷ []) [] d
+told_none (did.Piece space number v) d h k = refl
+told_none (did.Gave layer.Session body) d h k = refl
+told_none (did.Gave layer.Recovery body) d h k = refl
+told_none (did.Gave layer.Life body) d h k = refl
+told_none (did.Gave layer.Ids body) d h k = refl
+told_none (did.Gave layer.Streams body) d h k = absurd k
+told_none _ d h k = absurd h
 
 module _ {t : Types} where
   heard_wait : (s : View t) → heard_in (waiting_events s) ≡ heard_in s.life.heard
@@ -144,7 +178,7 @@ module _ {t : Types} where
     pub appended : b.did ≡ a.did ++ since
     pub steps : List Step
     pub leads : b.state.lower.datagrams ≡ after steps a.state.lower.datagrams
-    pub are : AreCame (given_to_streams since) steps
+    pub are : AreOfDeeds since steps a.state.lower.datagrams
     pub heard : heard_in b.state.life.heard ≡ heard_in a.state.life.heard + count_told steps a.state.lower.datagrams
 
   folds_here : (a : At t) → Folds a a
@@ -161,8 +195,8 @@ module _ {t : Types} where
         since = g.since ++ h.since;
         appended = h.appended ∙ ap (λ (x : List Did). x ++ h.since) g.appended ∙ append_assoc a.did g.since h.since;
         steps = g.steps ++ h.steps;
-        leads = h.leads ∙ ap (λ (x : Datagrams). after h.steps x) g.leads ∙ sym (after_append g.steps h.steps d);
-        are = subst (λ (bodies : List (List ℕ)). AreCame bodies (g.steps ++ h.steps)) (sym (given_append g.since h.since)) (came_append (given_to_streams g.since) (given_to_streams h.since) g.steps h.steps g.are h.are);
+        leads = h.leads ∙ ap (λ (x : Datagrams). after h.steps x) g.leads ∙ sym (posts_append g.steps h.steps d);
+        are = deeds_append g.since h.since g.steps h.steps d g.are (subst (λ (x : Datagrams). AreOfDeeds h.since h.steps x) g.leads h.are);
         heard = omega (arith, told, later, g.heard);
       }
 
@@ -172,7 +206,8 @@ module _ {t : Types} where
   steps_by _ = []
 
   moved_datagrams : (m : Meaning t) (x : Move t) (s : View t) → IsKnownMove m x s → IsUncalled x → (lower_move x s).datagrams ≡ after (steps_by x) s.lower.datagrams
-  unfolding lower_move flight_dropped packets_settled timer_fired bytes_came session_read session_wrote limits_learned frame_handed streams_closed streams_stepped datagrams_stepped after
+  unfolding lower_move flight_dropped packets_settled timer_fired bytes_came session_read session_wrote limits_learned frame_handed streams_closed streams_stepped datagrams_stepped after frames_sealed ids_stepped
+  moved_datagrams m (Take id fs) s k u = absurd k
   moved_datagrams m (Seal time form n size fs) s k u = absurd k
   moved_datagrams m (Begin id opens) s k u = ap (λ (l : Lower t.S). l.datagrams) (begun_streams id opens s)
   moved_datagrams m (Hand frame) s k u = refl
@@ -182,10 +217,11 @@ module _ {t : Types} where
   moved_datagrams m ReportStreams s k u = absurd k
   moved_datagrams m _ s k u = refl
 
-  moved_came : (m : Meaning t) (x : Move t) (s : View t) → IsKnownMove m x s → MayMove x s → AreCame (given_to_streams (deeds_move x s)) (steps_by x)
+  moved_came : (m : Meaning t) (x : Move t) (s : View t) → IsKnownMove m x s → MayMove x s → AreOfDeeds (deeds_move x s) (steps_by x) s.lower.datagrams
   unfolding deeds_move MayMove
-  moved_came m (Hand frame) s k may = frame_came frame
-  moved_came m (Tell d) s k may = subst (λ (bodies : List (List ℕ)). AreCame bodies []) (sym (told_none d may k)) refl
+  moved_came m (Hand frame) s k may = frame_came frame s.lower.datagrams
+  moved_came m (Tell deed) s k may = told_none deed s.lower.datagrams may k
+  moved_came m (Seal time form n size fs) s k may = absurd k
   moved_came m _ s k may = refl
 
   moved_heard : (m : Meaning t) (x : Move t) (s : View t) → IsKnownMove m x s → heard_in (life_move x s).heard ≡ heard_in s.life.heard + count_told (steps_by x) s.lower.datagrams
@@ -197,6 +233,16 @@ module _ {t : Types} where
       let same : heard_in (reason_given s.life why).heard ≡ heard_in s.life.heard = ap heard_in (given_heard s.life why (is_none s.life.reason)) in
       omega (arith, same)
   moved_heard m ReportHeard s k = absurd k
+  moved_heard m (Insert new) s k =
+      let same : heard_in (life_move (Insert new) s).heard ≡ heard_in s.life.heard = ap heard_in (named_heard (token_by new s.lower.ids.remote) s.life s.paths.current.remote) in
+      omega (arith, same)
+  moved_heard m Switch s k =
+      let same : heard_in (life_move {t = t} Switch s).heard ≡ heard_in s.life.heard = ap heard_in (named_heard (next_token s.lower.ids.remote) s.life s.paths.current.remote) in
+      omega (arith, same)
+  moved_heard m (Retire time n) s k =
+      let same : heard_in (life_move {t = t} (Retire time n) s).heard ≡ heard_in s.life.heard =
+      ap heard_in (retired_heard (may_retire n s.lower.ids.local) s.life time n (asks_one (active_limit s.setup.peer) n s.lower.ids)) in
+      omega (arith, same)
   moved_heard m ReportAllHeard s k = absurd k
   moved_heard m _ s k = omega arith
 
@@ -211,21 +257,21 @@ module _ {t : Types} where
     heard = moved_heard m x a.state k;
   }
 
-  -- a packet is taken and sealed
-  packet_folds : (time : ℕ) (form : Form) (fs : List FrameValue) (a : At t) →
+  -- a packet is taken and sealed: the steps of its DATAGRAM frames, with the deed that they were sealed
+  packet_folds : (time : ℕ) (form : Form) (fs : List FrameValue) (a : At t) → IsSealable time a.state form fs →
       Folds a (move_to (Seal time form (next_number a.state.numbers (number_space form)) (packet_size a.state form fs) fs) (move_to (Take (number_space form) fs) a))
-  unfolding move_to state_move lower_move streams_stepped deeds_move life_move after
-  packet_folds time form fs a =
+  unfolding move_to state_move lower_move streams_stepped datagrams_stepped deeds_move life_move frames_sealed ids_stepped
+  packet_folds time form fs a may =
       let b : At t = move_to (Take (number_space form) fs) a in
       let n : ℕ = next_number a.state.numbers (number_space form) in
       let size : ℕ = packet_size a.state form fs in
       record {
         since = deeds_move (Seal time form n size fs) b.state;
         appended = told_appends a.did (deeds_move (Seal time form n size fs) b.state);
-        steps = [];
+        steps = sealed_datagrams fs;
         leads = flown_datagrams b.state.waiting.close_owed b.state.lower (number_space form) n (flown_packet time size fs);
-        are = refl;
-        heard = omega arith;
+        are = ([], sym (append-nil (sealed_datagrams fs)), may.oldest, refl);
+        heard = omega (arith, sealed_untold fs a.state.lower.datagrams);
       }
 
   -- a call of the streams leaves them
@@ -238,7 +284,7 @@ module _ {t : Types} where
   leaves_next a b c g h = record { did = h.did ∙ g.did; datagrams = h.datagrams ∙ g.datagrams; heard = h.heard ∙ g.heard }
 
   call_leaves : (x : streams.Step) (a : At t) → MayMove (Call x) a.state → Leaves a (move_to (Call x) a)
-  unfolding move_to state_move lower_move deeds_move life_move streams_stepped
+  unfolding move_to state_move lower_move deeds_move life_move streams_stepped frames_sealed ids_stepped
   call_leaves x a may = record { did = refl; datagrams = refl; heard = refl }
 
   -- ---- inputs
@@ -250,22 +296,22 @@ module _ {t : Types} where
     pub makes : x.did ≡ b.did → MakesPosts i x made s.lower.datagrams
     pub heard : heard_in b.state.life.heard ≡ heard_in s.life.heard + count_told made s.lower.datagrams
 
-  other_does : (m : Meaning t) (i : Input) (x : TraceStep) (choice : Choice) (s : View t) → ((made : List Step) → AreCame (given_to_streams x.did) made → MakesPosts i x made s.lower.datagrams) → is_called i ≡ false →
+  other_does : (m : Meaning t) (i : Input) (x : TraceStep) (choice : Choice) (s : View t) → ((made : List Step) → AreOfDeeds x.did made s.lower.datagrams → MakesPosts i x made s.lower.datagrams) → is_called i ≡ false →
       IsAllowed m i choice (began s (time_of i)) → Does i x s (input_after m i choice (began s (time_of i)))
-  unfolding began state_move lower_move life_move
+  unfolding began state_move lower_move life_move frames_sealed ids_stepped
   other_does m i x choice s makes uncalled may =
       let a : At t = began s (time_of i) in
-      let h : Folds a (input_after m i choice a) = known_other m Folds folds_here folds_next (λ y c known plain may_be. move_folds m y c known plain may_be) (λ time form fs c may_be. packet_folds time form fs c) i choice a uncalled may in
+      let h : Folds a (input_after m i choice a) = known_other m Folds folds_here folds_next (λ y c known plain may_be. move_folds m y c known plain may_be) packet_folds i choice a uncalled may in
       record {
         made = h.steps;
         leads = h.leads;
-        makes = λ same. makes h.steps (subst (λ (ds : List Did). AreCame (given_to_streams ds) h.steps) (sym (same ∙ h.appended)) h.are);
+        makes = λ same. makes h.steps (subst (λ (ds : List Did). AreOfDeeds ds h.steps s.lower.datagrams) (sym (same ∙ h.appended)) h.are);
         heard = h.heard;
       }
 
   input_does : (m : Meaning t) (i : Input) (x : TraceStep) (choice : Choice) (s : View t) → IsAllowed m i choice (began s (time_of i)) → x.answer ≡ answer_of m i choice (began s (time_of i)) →
       Does i x s (input_after m i choice (began s (time_of i)))
-  unfolding began move_to state_move lower_move life_move deeds_move datagrams_stepped input_after IsAllowed answer_of after
+  unfolding began move_to state_move lower_move life_move deeds_move datagrams_stepped input_after IsAllowed answer_of after frames_sealed ids_stepped
   input_does m (input.Datagram time remote ecn bytes) x choice s may answers = other_does m (input.Datagram time remote ecn bytes) x choice s (λ made h. h) refl may
   input_does m (input.Timeout time) x choice s may answers = other_does m (input.Timeout time) x choice s (λ made h. h) refl may
   input_does m (input.Transmit time max) x choice s may answers = other_does m (input.Transmit time max) x choice s (λ made h. h) refl may
@@ -274,16 +320,27 @@ module _ {t : Types} where
   input_does m (input.SendDatagram time body) x choice s may answers = record {
     made = Sent (datagram_limit (began s time).state) body ∷ [];
     leads = refl;
-    makes = λ same. (datagram_limit (began s time).state, refl, answers);
+    makes = λ same. (datagram_limit (began s time).state, refl, answers, subst (λ (ds : List Did). AreOfDeeds ds [] s.lower.datagrams) (sym same) refl);
     heard = omega arith;
   }
-  input_does m (input.RecvDatagram time) x choice s may answers = record { made = Taken ∷ []; leads = refl; makes = λ same. (refl, answers); heard = omega arith }
+  input_does m (input.RecvDatagram time) x choice s may answers = record {
+    made = Taken ∷ [];
+    leads = refl;
+    makes = λ same. (refl, answers, subst (λ (ds : List Did). AreOfDeeds ds [] s.lower.datagrams) (sym same) refl);
+    heard = omega arith;
+  }
+  input_does m (input.Identifiers time given) x choice s may answers = record {
+    made = [];
+    leads = refl;
+    makes = λ same. subst (λ (ds : List Did). AreOfDeeds ds [] s.lower.datagrams) (sym same) refl;
+    heard = omega arith;
+  }
   input_does m i x choice s may answers =
       let h = called_input Leaves (λ a. record { did = refl; datagrams = refl; heard = refl }) leaves_next call_leaves i choice.read (began s (time_of i)) may in
       record {
         made = [];
         leads = h.datagrams;
-        makes = λ same. subst (λ (ds : List Did). AreCame (given_to_streams ds) []) (sym (same ∙ h.did)) refl;
+        makes = λ same. subst (λ (ds : List Did). AreOfDeeds ds [] s.lower.datagrams) (sym (same ∙ h.did)) refl;
         heard = let same : heard_in (called_all (calls_of i choice.read s.lower.streams) (began s (time_of i))).state.life.heard ≡ heard_in s.life.heard = ap heard_in h.heard in omega (arith, same);
       }
 
@@ -291,7 +348,7 @@ module _ {t : Types} where
 
   step_posts : (m : Meaning t) (k : ℕ) (s : View t) (i : Input) (x : TraceStep) (s' : View t) → IsStep m k s i x s' →
       (made : List Step) × MakesPosts i x made s.lower.datagrams × (heard_in x.events ≡ heard_in s.life.heard + count_told made s.lower.datagrams) × (s'.lower.datagrams ≡ after made s.lower.datagrams) × (heard_in s'.life.heard ≡ 0)
-  unfolding called run.step_after reported state_move lower_move life_move events_told streams_stepped ready_reported connected_reported all_heard_reported lost_reported notices_reported drained_reported
+  unfolding called run.step_after reported state_move lower_move life_move events_told streams_stepped ready_reported connected_reported all_heard_reported lost_reported notices_reported drained_reported frames_sealed ids_stepped
   step_posts m k s i x s' h =
       let b : At t = input_after m i h.choice (began s (time_of i)) in
       let does : Does i x s b = input_does m i x h.choice s h.allowed h.answer in (
@@ -311,7 +368,7 @@ module _ {t : Types} where
       let more : FoldsPosts is xs r.0 s' = run_posts m (k + 1) r.0 is xs s' r.2 in
       record {
         steps = one.0 ++ more.steps;
-        leads = more.leads ∙ ap (λ (y : Datagrams). after more.steps y) one.3 ∙ sym (after_append one.0 more.steps d);
+        leads = more.leads ∙ ap (λ (y : Datagrams). after more.steps y) one.3 ∙ sym (posts_append one.0 more.steps d);
         are = (
           one.0,
           more.steps,

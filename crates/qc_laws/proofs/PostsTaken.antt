@@ -4,11 +4,11 @@ use Rattle.std.specs.Option.{unwrap_or}
 use Rattle.qc_datagrams.specs.declared.datagrams.Datagrams.{Datagrams}
 use Rattle.qc_datagrams.specs.declared.datagrams.SendRefusal.{SendRefusal}
 use Rattle.qc_datagrams.specs.declared.datagrams.SendRefusal.TheVariants as send
-use Rattle.qc_datagrams.specs.Datagrams.{frame_taken, is_refused, new_datagrams, send_queued, send_refusal, send_refused}
+use Rattle.qc_datagrams.specs.Datagrams.{frame_taken, is_refused, new_datagrams, room_told, send_queued, send_refusal, send_refused}
 use Rattle.qc_datagrams.specs.Given.{AreInOrder, Queues, Takes, all_given, all_queued, given_by, queued_by}
 use Rattle.qc_datagrams.specs.Given as queue
 use Rattle.qc_datagrams.specs.Queue.{first}
-use Rattle.qc_datagrams.specs.Steps.{Step, after, after_step, sent_unless}
+use Rattle.qc_datagrams.specs.Steps.{Sealed, Step, after, after_step, sent_unless}
 use Rattle.qc_datagrams.proofs.GivenLaw.{gives_in_order}
 use Rattle.qc_frame.specs.Frame.{FrameValue}
 use Rattle.qc_frame.specs.FrameSpelling.{spelling}
@@ -17,36 +17,40 @@ use Rattle.qc_state.specs.declared.input.Input.{Input}
 use Rattle.qc_state.specs.declared.input.Input.TheVariants as input
 use Rattle.qc_state.specs.declared.trace.Answer.{Answer}
 use Rattle.qc_state.specs.declared.trace.Step.{Step as TraceStep}
-use Rattle.qc_state.specs.Datagrams.{datagram_steps, taken_answer}
+use Rattle.qc_state.specs.declared.deeds.Did.{Did}
+use Rattle.qc_state.specs.declared.deeds.Did.TheVariants as did
+use Rattle.qc_state.specs.declared.deeds.Layer.TheVariants as layer
+use Rattle.qc_state.specs.Datagrams.{datagram_steps, sealed_datagrams, taken_answer}
 use Rattle.qc_state.specs.Run.{Run}
 use Rattle.qc_state.specs.Types.{Types, Meaning}
 use Rattle.qc_state.specs.View.{View}
-use Rattle.qc_laws.specs.PostLaws.{AreCame, AreDatagrams, ArePosts, FoldsPosts, HasNewDatagrams, MakesPosts, TakesCame, TakesTrace, taken_by, taken_in}
+use Rattle.qc_laws.specs.PostLaws.{AreDatagrams, AreOfDeeds, ArePosts, FoldsPosts, HasNewDatagrams, MakesPosts, TakesCame, TakesTrace, taken_by, taken_in}
 use Rattle.qc_laws.specs.ReadLaws.{given_in}
 use Rattle.qc_laws.specs.StreamsLaws.{given_to_streams, with_steps}
 use Rattle.qc_laws.proofs.PostsFold.{run_posts}
+use Rattle.qc_state.proofs.DatagramSteps.{posts_append}
 
 -- ---- lists
 
 -- the front of a list that is in order is
-front_in : (xs ys zs : List (List ℕ)) → AreInOrder (xs ++ ys) zs → AreInOrder xs zs
+pub front_in : (xs ys zs : List (List ℕ)) → AreInOrder (xs ++ ys) zs → AreInOrder xs zs
 unfolding AreInOrder
 front_in [] ys zs h = tt
 front_in (x ∷ xs) ys [] h = absurd h
 front_in (x ∷ xs) ys (z ∷ zs) (inl h) = inl (h.0, front_in xs ys zs h.1)
 front_in (x ∷ xs) ys (z ∷ zs) (inr h) = inr (front_in (x ∷ xs) ys zs h)
 
-given_append : (xs ys : List queue.Step) (q : List (List ℕ)) → all_given (xs ++ ys) q ≡ all_given xs q ++ all_given ys (queue.after xs q)
+pub given_append : (xs ys : List queue.Step) (q : List (List ℕ)) → all_given (xs ++ ys) q ≡ all_given xs q ++ all_given ys (queue.after xs q)
 unfolding all_given queue.after
 given_append [] ys q = refl
 given_append (x ∷ xs) ys q = ap (λ (l : List (List ℕ)). given_by x q ++ l) (given_append xs ys (queue.after_step x q)) ∙ sym (append_assoc (given_by x q) (all_given xs (queue.after_step x q)) (all_given ys (queue.after xs (queue.after_step x q))))
 
-queued_append : (xs ys : List queue.Step) → all_queued (xs ++ ys) ≡ all_queued xs ++ all_queued ys
+pub queued_append : (xs ys : List queue.Step) → all_queued (xs ++ ys) ≡ all_queued xs ++ all_queued ys
 unfolding all_queued
 queued_append [] ys = refl
 queued_append (x ∷ xs) ys = ap (λ (l : List (List ℕ)). queued_by x ++ l) (queued_append xs ys) ∙ sym (append_assoc (queued_by x) (all_queued xs) (all_queued ys))
 
-left_append : (xs ys : List queue.Step) (q : List (List ℕ)) → queue.after (xs ++ ys) q ≡ queue.after ys (queue.after xs q)
+pub left_append : (xs ys : List queue.Step) (q : List (List ℕ)) → queue.after (xs ++ ys) q ≡ queue.after ys (queue.after xs q)
 unfolding queue.after
 left_append [] ys q = refl
 left_append (x ∷ xs) ys q = left_append xs ys (queue.after_step x q)
@@ -97,19 +101,34 @@ unfolding after after_step
 frame_goes body (frames.Datagram bytes) d spelled = came_goes body bytes d (is_refused bytes d) spelled
 frame_goes body _ d spelled = goes_here (body ∷ []) d.incoming d.incoming refl
 
-after_append : (xs ys : List Step) (d : Datagrams) → after (xs ++ ys) d ≡ after ys (after xs d)
-unfolding after
-after_append [] ys d = refl
-after_append (x ∷ xs) ys d = after_append xs ys (after_step x d)
+-- frames that are sealed leave those that came
+sealed_leaves : (fs : List FrameValue) (d : Datagrams) → (after (sealed_datagrams fs) d).incoming ≡ d.incoming
+unfolding sealed_datagrams after after_step room_told
+sealed_leaves [] d = refl
+sealed_leaves (frames.Datagram body ∷ fs) d = sealed_leaves fs (after_step Sealed d)
+sealed_leaves (_ ∷ fs) d = sealed_leaves fs d
 
-frames_go : (bodies : List (List ℕ)) (made : List Step) (d : Datagrams) → AreCame bodies made → Goes bodies [] d.incoming (after made d).incoming
+deeds_go : (ds : List Did) (made : List Step) (d : Datagrams) → AreOfDeeds ds made d → Goes (given_to_streams ds) [] d.incoming (after made d).incoming
 unfolding after
-frames_go [] made d h = subst (λ (xs : List Step). Goes [] [] d.incoming (after xs d).incoming) (sym h) (goes_here [] d.incoming d.incoming refl)
-frames_go (body ∷ bodies) made d h =
+deeds_go [] made d h = subst (λ (xs : List Step). Goes [] [] d.incoming (after xs d).incoming) (sym h) (goes_here [] d.incoming d.incoming refl)
+deeds_go (did.Gave layer.Streams body ∷ ds) made d h =
     let front : List Step = datagram_steps h.0 in
-    let leads : (after made d).incoming ≡ (after h.1 (after front d)).incoming = ap (λ (xs : List Step). (after xs d).incoming) h.3 ∙ ap (λ (x : Datagrams). x.incoming) (after_append front h.1 d) in
-    subst (λ (q : List (List ℕ)). Goes (body ∷ bodies) [] d.incoming q) (sym leads)
-    (goes_next (body ∷ []) bodies [] [] d.incoming (after front d).incoming (after h.1 (after front d)).incoming (frame_goes body h.0 d h.2) (frames_go bodies h.1 (after front d) h.4))
+    let leads : (after made d).incoming ≡ (after h.1 (after front d)).incoming = ap (λ (xs : List Step). (after xs d).incoming) h.3 ∙ ap (λ (x : Datagrams). x.incoming) (posts_append front h.1 d) in
+    subst (λ (q : List (List ℕ)). Goes (body ∷ given_to_streams ds) [] d.incoming q) (sym leads)
+    (goes_next (body ∷ []) (given_to_streams ds) [] [] d.incoming (after front d).incoming (after h.1 (after front d)).incoming (frame_goes body h.0 d h.2) (deeds_go ds h.1 (after front d) h.4))
+deeds_go (did.Gave layer.Session body ∷ ds) made d h = deeds_go ds made d h
+deeds_go (did.Gave layer.Recovery body ∷ ds) made d h = deeds_go ds made d h
+deeds_go (did.Gave layer.Life body ∷ ds) made d h = deeds_go ds made d h
+deeds_go (did.Gave layer.Ids body ∷ ds) made d h = deeds_go ds made d h
+deeds_go (did.Sealed space n epoch early fs ∷ ds) made d h =
+    let front : List Step = sealed_datagrams fs in
+    let leads : (after made d).incoming ≡ (after h.0 (after front d)).incoming = ap (λ (xs : List Step). (after xs d).incoming) h.1 ∙ ap (λ (x : Datagrams). x.incoming) (posts_append front h.0 d) in
+    subst (λ (q : List (List ℕ)). Goes (given_to_streams ds) [] d.incoming q) (sym leads)
+    (subst (λ (p : List (List ℕ)). Goes (given_to_streams ds) [] p (after h.0 (after front d)).incoming) (sealed_leaves fs d) (deeds_go ds h.0 (after front d) h.3))
+deeds_go (did.Piece space number v ∷ ds) made d h = deeds_go ds made d h
+deeds_go (did.Rose life ∷ ds) made d h = deeds_go ds made d h
+deeds_go (did.Lost why ∷ ds) made d h = deeds_go ds made d h
+deeds_go (did.Quiet why ∷ ds) made d h = deeds_go ds made d h
 
 -- one that is sent leaves those that came
 sent_leaves : (o : Option SendRefusal) (body : List ℕ) (d : Datagrams) → (sent_unless o body d).incoming ≡ d.incoming
@@ -133,14 +152,14 @@ input_goes (input.SendDatagram time body) x made d h =
 input_goes (input.RecvDatagram time) x made d h =
     let took : first d.incoming ++ [] ≡ taken_by (input.RecvDatagram time) x.answer = append-nil (first d.incoming) ∙ sym (taken_first d.incoming time) ∙ ap (λ (a : Answer). taken_by (input.RecvDatagram time) a) (sym h.1) in
     record { steps = Takes ∷ []; gives = took; leads = ap (λ (xs : List Step). (after xs d).incoming) h.0; among = none_among (given_to_streams x.did) }
-input_goes _ x made d h = frames_go (given_to_streams x.did) made d h
+input_goes _ x made d h = deeds_go x.did made d h
 
 inputs_go : (waited : ℕ) (calls : List (Input × TraceStep)) (xs : List Step) (d : Datagrams) → ArePosts waited calls xs d → Goes (given_in calls) (taken_in calls) d.incoming (after xs d).incoming
 unfolding after
 inputs_go waited [] xs d h = goes_here [] d.incoming (after xs d).incoming (ap (λ (ys : List Step). (after ys d).incoming) h)
 inputs_go waited (call ∷ calls) xs d h =
     let made : List Step = h.0 in
-    let leads : (after xs d).incoming ≡ (after h.1 (after made d)).incoming = ap (λ (ys : List Step). (after ys d).incoming) h.2 ∙ ap (λ (x : Datagrams). x.incoming) (after_append made h.1 d) in
+    let leads : (after xs d).incoming ≡ (after h.1 (after made d)).incoming = ap (λ (ys : List Step). (after ys d).incoming) h.2 ∙ ap (λ (x : Datagrams). x.incoming) (posts_append made h.1 d) in
     subst (λ (q : List (List ℕ)). Goes (given_in (call ∷ calls)) (taken_in (call ∷ calls)) d.incoming q) (sym leads)
     (goes_next (given_to_streams call.1.did) (given_in calls) (taken_by call.0 call.1.answer) (taken_in calls) d.incoming (after made d).incoming (after h.1 (after made d)).incoming
     (input_goes call.0 call.1 made d h.3) (inputs_go 0 calls h.1 (after made d) h.5))

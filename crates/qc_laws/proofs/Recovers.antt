@@ -34,10 +34,10 @@ use Rattle.qc_state.specs.Flight.{flown_packet}
 use Rattle.qc_state.specs.Forms.{number_space, is_early}
 use Rattle.qc_state.specs.Headline.{deeds_of}
 use Rattle.qc_state.specs.Life.{is_open, rank_of}
-use Rattle.qc_state.specs.Lower.{bytes_came, flight_dropped, packet_flown, packets_settled, session_read, session_wrote, timer_fired, limits_learned, frame_handed, streams_closed, streams_stepped, events_told, datagrams_stepped}
-use Rattle.qc_state.specs.Moves.{Accept, Ack, Arm, Ask, Begin, Clock, Come, Confirm, PeerClosesToo, Enter, Establish, Expect, Fail, Finish, Fire, Fix, Forget, Give, Hear, IsTold, Learn, PeerCloses, MayMove, Move, Owe, Pace, Raise, Read, Ready, Release, Say, Seal, Shut, Skip, Take, Tell, Token, Want, Write, deeds_move, is_close, lower_move, move_to, paths_move, state_move, waiting_move, Call, Hand, Post}
+use Rattle.qc_state.specs.Lower.{bytes_came, flight_dropped, packet_flown, packets_settled, session_read, session_wrote, timer_fired, limits_learned, frame_handed, streams_closed, streams_stepped, events_told, datagrams_stepped, frames_sealed, ids_stepped}
+use Rattle.qc_state.specs.Moves.{Accept, Ack, Arm, Ask, Begin, Clock, Come, Confirm, PeerClosesToo, Enter, Establish, Expect, Fail, Finish, Fire, Fix, Forget, Give, Hear, IsTold, Learn, PeerCloses, MayMove, Move, Owe, Pace, Raise, Read, Ready, Release, Say, Seal, Shut, Skip, Take, Tell, Token, Want, Write, deeds_move, is_close, lower_move, move_to, paths_move, state_move, waiting_move, Call, Hand, Post, Insert, Switch, Retire, Issue, Outlive}
 use Rattle.qc_state.specs.Numbers.{next_number, received_number}
-use Rattle.qc_state.specs.Paths.{path_accepted, path_idle, path_kept, path_received, path_sent, path_spun, peer_fixed, spun_by}
+use Rattle.qc_state.specs.Paths.{path_accepted, path_idle, path_kept, path_received, path_sent, path_spun, peer_fixed, spun_by, path_named}
 use Rattle.qc_state.specs.Recovering.{fired_by, settled_by}
 use Rattle.qc_laws.specs.RecoveryLaws.{AllMay, AreFlown, Dropped, EachSettlesOnce, Fired, Kept, MayStep, RecoveryStep, Recovers, Sent, Settled, kept, sent_in, step_after, steps_after, steps_of}
 use Rattle.qc_state.specs.Run.{IsStep, Run, began, called, input_after, reported, time_of}
@@ -178,7 +178,7 @@ module _ {t : Types} where
   -- each move beside those with which a packet is taken and sealed
   pub move_parts : (m : Meaning t) (x : Move t) (s : View t) → IsKnownMove m x s → MayMove x s →
       AllMay m.control (steps_of x s) (kept s) × (kept (state_move x s) ≡ steps_after (steps_of x s) (kept s)) × ((id : SpaceId) → AreFlown id (deeds_move x s) (sent_in id (steps_of x s)))
-  unfolding steps_of step_after state_move lower_move paths_move deeds_move flight_dropped packets_settled timer_fired bytes_came session_read session_wrote limits_learned frame_handed streams_closed streams_stepped datagrams_stepped path_idle path_kept path_received path_sent peer_fixed MayMove
+  unfolding steps_of step_after state_move lower_move paths_move deeds_move flight_dropped packets_settled timer_fired bytes_came session_read session_wrote limits_learned frame_handed streams_closed streams_stepped datagrams_stepped path_idle path_kept path_named path_received path_sent peer_fixed MayMove frames_sealed ids_stepped
   move_parts m (Clock time) s k may = absurd k
   move_parts m (Ask id) s k may = (tt, refl, (λ id. refl))
   move_parts m (Take id fs) s k may = absurd k
@@ -219,6 +219,11 @@ module _ {t : Types} where
   move_parts m (Hand frame) s k may = (tt, refl, (λ id. handed_told (λ ds. AreFlown id ds []) frame refl (λ body. refl)))
   move_parts m (Call x) s k may = (tt, refl, (λ id. refl))
   move_parts m (Post x) s k may = (tt, refl, (λ id. refl))
+  move_parts m (Insert new) s k may = (tt, refl, (λ id. refl))
+  move_parts m Switch s k may = (tt, refl, (λ id. refl))
+  move_parts m (Retire time n) s k may = (tt, refl, (λ id. refl))
+  move_parts m (Issue time given) s k may = (tt, refl, (λ id. refl))
+  move_parts m Outlive s k may = (tt, refl, (λ id. refl))
   move_parts m _ s k may = absurd k
 
   move_folds : (m : Meaning t) (x : Move t) (a : At t) → IsKnownMove m x a.state → MayMove x a.state → Folds m a (move_to x a)
@@ -227,7 +232,7 @@ module _ {t : Types} where
   -- a packet is taken and sealed
   packet_folds : (m : Meaning t) (time : ℕ) (form : Form) (fs : List FrameValue) (a : At t) → IsSealable time a.state form fs → Ends a.state →
       Folds m a (move_to (Seal time form (next_number a.state.numbers (number_space form)) (packet_size a.state form fs) fs) (move_to (Take (number_space form) fs) a))
-  unfolding steps_of step_after state_move lower_move streams_stepped paths_move waiting_move waiting_without deeds_move move_to
+  unfolding steps_of step_after state_move lower_move streams_stepped datagrams_stepped paths_move waiting_move waiting_without deeds_move move_to frames_sealed ids_stepped
   packet_folds m time form fs a may ends =
       let b : At t = move_to (Take (number_space form) fs) a in
       let owed : Bool = b.state.waiting.close_owed in
@@ -248,7 +253,7 @@ module _ {t : Types} where
   keeps_next m a b c g k = λ h. let first = g h in let second = k first.0 in (second.0, folds_next m a b c first.1 second.1)
 
   step_recovers : (m : Meaning t) (k : ℕ) (s : View t) (i : Input) (x : Step) (s' : View t) → IsStep m k s i x s' → Ends s → Recovers m x.did s s'
-  unfolding called began run.step_after reported state_move lower_move paths_move events_told streams_stepped datagrams_stepped
+  unfolding called began run.step_after reported state_move lower_move paths_move events_told streams_stepped datagrams_stepped frames_sealed ids_stepped
   step_recovers m k s i x s' h ends =
       let a : At t = began s (time_of i) in
       let both = known_input m (Keeps m) (keeps_here m) (keeps_next m) (λ y b known may. λ e. (known_keeps m y b known may e, move_folds m y b known may))

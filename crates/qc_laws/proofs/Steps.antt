@@ -1,7 +1,9 @@
 -- From a call and the reports after it to a step.
-use Rattle.std.proofs.Common.{◌≡◌, ℕ, ◌+◌, ◌≤◌, List, [], ◌∷◌, ◌++◌, length, take, get_or, ◌<◌, refl, ap, sym, ◌∙◌, subst, Bool, true, Option, Result, Err, if◌then◌else◌, arith, length-append}
+use Rattle.std.proofs.Common.{◌≡◌, ℕ, ◌+◌, ◌≤◌, List, [], ◌∷◌, ◌++◌, length, take, get_or, ◌<◌, refl, ap, sym, ◌∙◌, subst, Bool, true, Option, None, Result, Err, if◌then◌else◌, arith, length-append}
 use Rattle.std.proofs.lemmas.List.{take_more}
 use Rattle.std.specs.Prelude.{map, option_to_list}
+use Rattle.qc_base.specs.declared.ids.IssuedCid.{IssuedCid}
+use Rattle.qc_cids.specs.Cids.{give_refusal}
 use Rattle.qc_datagrams.specs.Datagrams.{send_refusal}
 use Rattle.qc_datagrams.specs.Steps as datagrams
 use Rattle.qc_recv.specs.declared.recv.Chunk.{Chunk}
@@ -18,7 +20,7 @@ use Rattle.qc_state.specs.declared.trace.Step.{Step}
 use Rattle.qc_state.specs.declared.transmit.Transmit.{Transmit}
 use Rattle.qc_state.specs.Datagrams.{sent_answer, taken_answer}
 use Rattle.qc_state.specs.Life.{all_heard_reported, ready_event, connected_event, lost_event, ready_reported, connected_reported, lost_reported, drained_event, notices_reported}
-use Rattle.qc_state.specs.Moves.{Ask, Call, Clock, Post, ReportReady, ReportConnected, ReportAllHeard, ReportStreams, ReportLost, ReportNotices, ReportDrained, state_move, move_to, deeds_move, life_move, lower_move}
+use Rattle.qc_state.specs.Moves.{Ask, Call, Clock, Post, ReportReady, ReportConnected, ReportAllHeard, ReportStreams, ReportLost, ReportNotices, ReportDrained, state_move, move_to, deeds_move, life_move, lower_move, Issue}
 use Rattle.qc_state.specs.Polls.{waiting_events, endpoint_events}
 use Rattle.qc_state.specs.Run.{time_of, word_of, began, close_after, called_all, datagram_limit, input_after, called, reported, step_after, IsAllowed, out_of, answer_of, IsStep, Run, Calls, Ran, Adds}
 use Rattle.qc_state.specs.Receiving.{is_taken, datagram_after}
@@ -91,6 +93,17 @@ module _ {t : Types} where
     leads = ap (λ (x : List Did). at b x) is_ds ∙ ap (λ (x : View t). at x []) (is_b ∙ ap (λ (x : View t). state_move (Post datagrams.Taken) x) is_mid);
     allowed = tt;
     answers = e ∙ ap (λ (x : View t). taken_answer x.lower.datagrams.incoming) is_mid;
+  }
+
+  -- ids of this end are given
+  pub calls_issue : (m : Meaning t) (s mid : View t) (time : ℕ) (given : List IssuedCid) (b : View t) (ds : List Did) (answer : Answer) → mid ≡ state_move (Clock time) s → give_refusal given mid.lower.ids ≡ None →
+      b ≡ state_move (Issue time given) mid → ds ≡ [] → answer ≡ Done → Calls m s (input.Identifiers time given) (at b ds) answer
+  unfolding began input_after called IsAllowed answer_of move_to deeds_move
+  calls_issue m s mid time given b ds answer is_mid none is_b is_ds e = record {
+    choice = unread;
+    leads = ap (λ (x : List Did). at b x) is_ds ∙ ap (λ (x : View t). at x []) (is_b ∙ ap (λ (x : View t). state_move (Issue time given) x) is_mid);
+    allowed = ap (λ (x : View t). give_refusal given x.lower.ids) (sym is_mid) ∙ none;
+    answers = e;
   }
 
   pub calls_close : (m : Meaning t) (s mid : View t) (time code : ℕ) (reason copy : List ℕ) (ds : List Did) (b : At t) (answer : Answer) →

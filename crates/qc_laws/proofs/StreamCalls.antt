@@ -2,6 +2,7 @@
 -- streams are handed is its gift, or nothing.
 use Rattle.std.proofs.Common.{◌≡◌, ℕ, List, [], ◌∷◌, refl, Bool, true, false, Option, Some, None, if◌then◌else◌, arith}
 use Rattle.std.specs.Prelude.{not, is_some, Result}
+use Rattle.std.specs.declared.net.SocketAddr.{SocketAddr}
 use Rattle.qc_frame.specs.Frame.{FrameValue}
 use Rattle.qc_frame.specs.FrameSpelling.{spelling}
 use Rattle.qc_recv.specs.declared.recv.Chunk.{Chunk}
@@ -22,7 +23,7 @@ use Rattle.qc_state.specs.declared.deeds.Layer.TheVariants as layer
 use Rattle.qc_state.specs.declared.input.Input.{Input}
 use Rattle.qc_state.specs.declared.input.Input.TheVariants as input
 use Rattle.qc_state.specs.declared.life.Life.{Life}
-use Rattle.qc_state.specs.Life.{datagram_heard}
+use Rattle.qc_state.specs.Life.{datagram_heard, retirement_told, token_learned, token_told}
 use Rattle.qc_state.specs.Lower.{streams_stepped}
 use Rattle.qc_state.specs.Moves.{Call, MayMove, is_call, lower_move, move_to, state_move, told_to_streams}
 use Rattle.qc_state.specs.Run.{called_all}
@@ -45,6 +46,17 @@ pub heard_state : (b : Bool) (v : Life) → (datagram_heard b v).state ≡ v.sta
 unfolding datagram_heard
 heard_state true v = refl
 heard_state false v = refl
+
+-- nor does it that a token of the peer's is told to the endpoint, where one came with an id, or that the peer retired an id of this end
+pub named_state : (o : Option (List ℕ)) (v : Life) (remote : SocketAddr) → (token_told v remote o).state ≡ v.state
+unfolding token_learned
+named_state None v remote = refl
+named_state (Some token) v remote = refl
+
+pub retired_state : (b : Bool) (v : Life) (time n : ℕ) (more : Bool) → (if b then retirement_told v time n more else v).state ≡ v.state
+unfolding retirement_told
+retired_state true v time n more = refl
+retired_state false v time n more = refl
 
 -- ---- calls
 

@@ -18,8 +18,8 @@ use Rattle.qc_state.specs.declared.trace.Step.{Step}
 use Rattle.qc_state.specs.Forms.{number_space}
 use Rattle.qc_state.specs.Headline.{deeds_of}
 use Rattle.qc_state.specs.Life.{is_open, is_over}
-use Rattle.qc_state.specs.Lower.{bytes_came, flight_dropped, packets_settled, ready_bytes, session_read, session_wrote, stream_of, timer_fired, limits_learned, frame_handed, streams_closed, streams_stepped, events_told, event_told, datagrams_stepped}
-use Rattle.qc_state.specs.Moves.{Accept, Ack, Ask, Begin, Come, Enter, Fire, Forget, Move, Read, Seal, Shut, Take, Tell, Write, deeds_move, lower_move, move_to, state_move, Hand, Call, Post}
+use Rattle.qc_state.specs.Lower.{bytes_came, flight_dropped, packets_settled, ready_bytes, session_read, session_wrote, stream_of, timer_fired, limits_learned, frame_handed, streams_closed, streams_stepped, events_told, event_told, datagrams_stepped, frames_sealed, ids_stepped}
+use Rattle.qc_state.specs.Moves.{Accept, Ack, Ask, Begin, Come, Enter, Fire, Forget, Move, Read, Seal, Shut, Take, Tell, Write, deeds_move, lower_move, move_to, state_move, Hand, Call, Post, Issue}
 use Rattle.qc_state.specs.Numbers.{next_number}
 use Rattle.qc_state.specs.Receiving.{datagram_after}
 use Rattle.qc_state.specs.Run.{IsAllowed, IsStep, Run, began, called, close_after, input_after, reported, step_after, time_of, datagram_limit}
@@ -81,13 +81,14 @@ module _ {t : Types} (id : SpaceId) where
   told_stays o (did.Gave layer.Session body) s h beside = absurd beside
   told_stays o (did.Gave layer.Recovery body) s h beside = (refl, refl)
   told_stays o (did.Gave layer.Life body) s h beside = (refl, refl)
+  told_stays o (did.Gave layer.Ids body) s h beside = (refl, refl)
   told_stays o (did.Gave layer.Streams body) s h beside = (refl, refl)
   told_stays o (did.Piece space number v) s h beside = (ap (λ (x : Option SpaceId). is_of id x) h.0, refl)
   told_stays o _ s h beside = absurd h
 
   -- bytes came
   come_within : (now : Bool) (space : SpaceId) (offset : ℕ) (body : List ℕ) (a : At t) → (id ≡ space) ⊎ (is_space id space ≡ false) → Within now a (move_to (Come space offset body) a)
-  unfolding move_to state_move lower_move deeds_move AreReads after after_step all_read IsRead
+  unfolding move_to state_move lower_move deeds_move AreReads after after_step all_read IsRead frames_sealed ids_stepped
   come_within now space offset body a (inl is) = record {
     since = [];
     appended = told_appends a.did [];
@@ -101,7 +102,7 @@ module _ {t : Types} (id : SpaceId) where
 
   -- the session is given bytes
   gave_within : (m : Meaning t) (o : OpenPacket) (x : ℕ) (bytes : List ℕ) (a : At t) → x ∷ bytes ≡ ready_bytes (stream_of a.state.lower o.space) → (id ≡ o.space) ⊎ (is_space id o.space ≡ false) → Within (is_space id o.space) a (given_read m o x bytes a)
-  unfolding move_to state_move lower_move deeds_move AreReads after after_step all_read
+  unfolding move_to state_move lower_move deeds_move AreReads after after_step all_read frames_sealed ids_stepped
   gave_within m o x bytes a ready (inl is) =
       let here : is_space id o.space ≡ true = subst (λ (y : SpaceId). is_space id y ≡ true) is (is_same id) in
       record {
@@ -125,7 +126,7 @@ module _ {t : Types} (id : SpaceId) where
 
   -- each other move of a packet
   move_within : (m : Meaning t) (o : OpenPacket) (x : Move t) (a : At t) → IsInPacket m o x a.state → IsBeside x → Within (is_space id o.space) a (move_to x a)
-  unfolding lower_move deeds_move flight_dropped packets_settled session_wrote limits_learned frame_handed streams_closed event_told events_told streams_stepped datagrams_stepped stream_of
+  unfolding lower_move deeds_move flight_dropped packets_settled session_wrote limits_learned frame_handed streams_closed event_told events_told streams_stepped datagrams_stepped stream_of frames_sealed ids_stepped
   move_within m o (Read space count session) a h beside = absurd beside
   move_within m o (Seal time form n size fs) a h beside = absurd h
   move_within m o (Begin space opens) a h beside = absurd h
@@ -187,7 +188,7 @@ module _ {t : Types} (id : SpaceId) where
   -- ---- inputs
 
   outside_kept : (time : ℕ) (x : Move t) (a : At t) → IsOutside time x a.state → Kept a (move_to x a)
-  unfolding lower_move deeds_move limits_learned streams_closed event_told events_told streams_stepped datagrams_stepped stream_of
+  unfolding lower_move deeds_move limits_learned streams_closed event_told events_told streams_stepped datagrams_stepped stream_of frames_sealed ids_stepped
   outside_kept time (Seal at form n size fs) a h = absurd h
   outside_kept time (Begin space opens) a h = absurd h
   outside_kept time (Come space offset bytes) a h = absurd h
@@ -206,7 +207,7 @@ module _ {t : Types} (id : SpaceId) where
       datagram_holds m coming (λ p. Unit {0}) Kept kept_here kept_next (λ x b h may. outside_kept coming.time x b h) (λ p comes o b opened. packet_kept m o b opened.lively) bytes a (λ p among. tt)
 
   timed_kept : (x : Move t) → IsTimed x → (a : At t) → Kept a (move_to x a)
-  unfolding lower_move deeds_move timer_fired limits_learned streams_closed event_told events_told streams_stepped datagrams_stepped stream_of
+  unfolding lower_move deeds_move timer_fired limits_learned streams_closed event_told events_told streams_stepped datagrams_stepped stream_of frames_sealed ids_stepped
   timed_kept (Seal at form n size fs) h a = absurd h
   timed_kept (Begin space opens) h a = absurd h
   timed_kept (Come space offset bytes) h a = absurd h
@@ -221,7 +222,7 @@ module _ {t : Types} (id : SpaceId) where
   timed_kept x h a = still_kept x a refl (λ now. refl)
 
   sending_kept : (x : Move t) → IsSending x → (a : At t) → Kept a (move_to x a)
-  unfolding lower_move deeds_move flight_dropped limits_learned streams_closed event_told events_told streams_stepped datagrams_stepped stream_of
+  unfolding lower_move deeds_move flight_dropped limits_learned streams_closed event_told events_told streams_stepped datagrams_stepped stream_of frames_sealed ids_stepped
   sending_kept (Seal at form n size fs) h a = absurd h
   sending_kept (Come space offset bytes) h a = absurd h
   sending_kept (Read space count session) h a = absurd h
@@ -236,19 +237,19 @@ module _ {t : Types} (id : SpaceId) where
   sending_kept x h a = still_kept x a refl (λ now. refl)
 
   seal_kept : (time : ℕ) (form : Form) (fs : List FrameValue) (a : At t) → Kept a (move_to (Seal time form (next_number a.state.numbers (number_space form)) (packet_size a.state form fs) fs) (move_to (Take (number_space form) fs) a))
-  unfolding lower_move deeds_move streams_stepped stream_of
+  unfolding lower_move deeds_move streams_stepped datagrams_stepped stream_of frames_sealed ids_stepped
   seal_kept time form fs a =
       let b : At t = move_to (Take (number_space form) fs) a in
       kept_next a b _ (still_kept (Take (number_space form) fs) a refl (λ now. refl))
       (still_kept (Seal time form (next_number a.state.numbers (number_space form)) (packet_size a.state form fs) fs) b (flown_stream id b.state.waiting.close_owed b.state.lower form _ time _ fs) (λ now. refl))
 
   shut_kept : (time : ℕ) (close : Close) (a : At t) (b : Bool) → Kept a (if b then move_to (Shut time close) a else a)
-  unfolding lower_move deeds_move streams_closed streams_stepped datagrams_stepped stream_of
+  unfolding lower_move deeds_move streams_closed streams_stepped datagrams_stepped stream_of frames_sealed ids_stepped
   shut_kept time close a true = still_kept (Shut time close) a refl (λ now. refl)
   shut_kept time close a false = kept_here a
 
   input_kept : (m : Meaning t) (i : Input) (choice : Choice) (a : At t) → IsAllowed m i choice a → Kept a (input_after m i choice a)
-  unfolding IsAllowed input_after close_after lower_move deeds_move streams_stepped datagrams_stepped stream_of
+  unfolding IsAllowed input_after close_after lower_move deeds_move streams_stepped datagrams_stepped stream_of frames_sealed ids_stepped
   input_kept m (input.Datagram time remote ecn bytes) choice a may = datagram_kept m (record { time = time; remote = remote; mark = ecn }) bytes a
   input_kept m (input.Timeout time) choice a may = holds_timeout Kept kept_here kept_next (λ x h b may_be. timed_kept x h b) m time a
   input_kept m (input.Transmit time max) choice a may = holds_transmit Kept kept_here kept_next (λ x r b h. sending_kept x r b) (λ at form fs b h. seal_kept at form fs b) m time choice a may
@@ -256,6 +257,7 @@ module _ {t : Types} (id : SpaceId) where
   input_kept m (input.Ping time) choice a may = still_kept (Ask a.state.keys.highest) a refl (λ now. refl)
   input_kept m (input.SendDatagram time body) choice a may = still_kept (Post (datagrams.Sent (datagram_limit a.state) body)) a refl (λ now. refl)
   input_kept m (input.RecvDatagram time) choice a may = still_kept (Post datagrams.Taken) a refl (λ now. refl)
+  input_kept m (input.Identifiers time given) choice a may = still_kept (Issue time given) a refl (λ now. refl)
   input_kept m i choice a may = called_input Kept kept_here kept_next (λ x b h. still_kept (Call x) b refl (λ now. refl)) i choice.read a may
 
   -- ---- steps and runs
@@ -267,7 +269,7 @@ module _ {t : Types} (id : SpaceId) where
     pub given : (now : Bool) → session_bytes id now ds ≡ all_read steps
 
   step_over : (m : Meaning t) (k : ℕ) (s : View t) (i : Input) (x : Step) (s' : View t) → IsStep m k s i x s' → Over x.did s s'
-  unfolding called began step_after reported state_move lower_move events_told streams_stepped datagrams_stepped stream_of
+  unfolding called began step_after reported state_move lower_move events_told streams_stepped datagrams_stepped stream_of frames_sealed ids_stepped
   step_over m k s i x s' h =
       let kept : Kept (began s (time_of i)) (input_after m i h.choice (began s (time_of i))) = input_kept m i h.choice (began s (time_of i)) h.allowed in
       let deeds : x.did ≡ kept.since = h.deeds ∙ kept.appended in

@@ -27,8 +27,8 @@ use Rattle.qc_state.specs.Forms.{is_early, number_space}
 use Rattle.qc_state.specs.Headline.{deeds_of}
 use Rattle.qc_state.specs.Keys.{epoch_in}
 use Rattle.qc_state.specs.Life.{connected_event, event_if, lost_event, rank_of, ready_event}
-use Rattle.qc_state.specs.Lower.{bytes_came, events_told, flight_dropped, frame_handed, limits_learned, packet_flown, packets_settled, session_read, session_wrote, streams_closed, streams_stepped, timer_fired, datagrams_stepped}
-use Rattle.qc_state.specs.Moves.{Ack, Begin, Call, Establish, Fire, Hand, Learn, MayMove, Move, PeerCloses, PeerClosesToo, Raise, ReportStream, ReportStreams, Seal, Shut, Take, Tell, deeds_move, keys_move, lower_move, move_to, state_move, Post}
+use Rattle.qc_state.specs.Lower.{bytes_came, events_told, flight_dropped, frame_handed, limits_learned, packet_flown, packets_settled, session_read, session_wrote, streams_closed, streams_stepped, timer_fired, datagrams_stepped, frames_sealed, ids_stepped}
+use Rattle.qc_state.specs.Moves.{Ack, Begin, Call, Establish, Fire, Hand, Learn, MayMove, Move, PeerCloses, PeerClosesToo, Raise, ReportStream, ReportStreams, Seal, Shut, Take, Tell, deeds_move, keys_move, lower_move, move_to, state_move, Post, Issue}
 use Rattle.qc_state.specs.Numbers.{next_number}
 use Rattle.qc_state.specs.Offers.{begun_steps, packet_begun}
 use Rattle.qc_state.specs.Polls.{waiting_events}
@@ -52,6 +52,7 @@ use Rattle.qc_laws.specs.EventLaws.{OnlyDoneWaits}
 use Rattle.qc_laws.proofs.EventsTold.{called_done, step_done}
 use Rattle.std.specs.List.{list_all}
 use Rattle.qc_datagrams.specs.Steps as datagrams
+use Rattle.qc_base.specs.declared.ids.IssuedCid.{IssuedCid}
 
 -- an input that is no call of the streams makes none
 pub none_called : (i : Input) (read : Result (Option Chunk) ReadFault) (s : StreamsState) → is_streams_call i ≡ false → [] ≡ calls_of i read s
@@ -116,11 +117,11 @@ module _ {t : Types} where
   MoveFolds x s = ((state_move x s).lower.streams ≡ after (streams_steps x s) s.lower.streams) × Are (streams_steps x s) (deeds_move x s) [] [] s.lower.streams
 
   begun_leads : (id : SpaceId) (opens : Bool) (s : View t) → (packet_begun id opens s).lower.streams ≡ after (begun_steps id opens s) s.lower.streams
-  unfolding streams_stepped
+  unfolding ids_stepped streams_stepped
   begun_leads id opens s = ap (λ (l : Lower t.S). l.streams) (begun_streams id opens s)
 
   move_folds : (m : Meaning t) (x : Move t) (s : View t) → IsKnownMove m x s → IsUncalled x → MayMove x s → MoveFolds x s
-  unfolding streams_steps state_move lower_move deeds_move flight_dropped packets_settled timer_fired bytes_came session_read session_wrote limits_learned frame_handed streams_closed streams_stepped datagrams_stepped MayMove after
+  unfolding streams_steps state_move lower_move deeds_move flight_dropped packets_settled timer_fired bytes_came session_read session_wrote limits_learned frame_handed streams_closed streams_stepped datagrams_stepped MayMove after frames_sealed ids_stepped
   move_folds m (Take id fs) s k u may = absurd k
   move_folds m (Seal time form n size fs) s k u may = absurd k
   move_folds m (Begin id opens) s k u may = (begun_leads id opens s, settled_are (begun_steps id opens s) s.lower.streams (begun_all id opens s))
@@ -170,7 +171,7 @@ module _ {t : Types} where
   -- a packet is taken and sealed: the steps of the frames that are taken, with the deed that they were sealed
   packet_folds : (time : ℕ) (form : Form) (fs : List FrameValue) (a : At t) → IsSealable time a.state form fs →
       Folds a (move_to (Seal time form (next_number a.state.numbers (number_space form)) (packet_size a.state form fs) fs) (move_to (Take (number_space form) fs) a))
-  unfolding move_to state_move keys_move lower_move deeds_move streams_stepped
+  unfolding move_to state_move keys_move lower_move deeds_move streams_stepped datagrams_stepped frames_sealed ids_stepped
   packet_folds time form fs a may =
       let b : At t = move_to (Take (number_space form) fs) a in
       let n : ℕ = next_number a.state.numbers (number_space form) in
@@ -191,7 +192,7 @@ module _ {t : Types} where
   called_did (x ∷ xs) a = called_did xs (move_to (Call x) a)
 
   called_streams : (xs : List Step) (a : At t) → (called_all xs a).state.lower.streams ≡ after xs a.state.lower.streams
-  unfolding move_to state_move lower_move streams_stepped datagrams_stepped after
+  unfolding move_to state_move lower_move streams_stepped datagrams_stepped after frames_sealed ids_stepped
   called_streams [] a = refl
   called_streams (x ∷ xs) a = called_streams xs (move_to (Call x) a)
 
@@ -222,7 +223,7 @@ module _ {t : Types} where
   Does m i x choice s = let b : At t = input_after m i choice (began s (time_of i)) in Over b.did ((i, x) ∷ []) [] s b.state
 
   other_does : (m : Meaning t) (i : Input) (x : TraceStep) (choice : Choice) (s : View t) → is_called i ≡ false → IsAllowed m i choice (began s (time_of i)) → Does m i x choice s
-  unfolding began state_move lower_move
+  unfolding began state_move lower_move frames_sealed ids_stepped
   other_does m i x choice s uncalled may =
       let a : At t = began s (time_of i) in
       let none : is_streams_call i ≡ false = uncalled_streams i uncalled in
@@ -234,13 +235,20 @@ module _ {t : Types} where
 
   -- a call of the datagrams makes none of the streams
   post_does : (step : datagrams.Step) (i : Input) (x : TraceStep) (choice : Choice) (s : View t) → is_streams_call i ≡ false → let b : At t = move_to (Post step) (began s (time_of i)) in Over b.did ((i, x) ∷ []) [] s b.state
-  unfolding began move_to state_move lower_move deeds_move datagrams_stepped after
+  unfolding began move_to state_move lower_move deeds_move datagrams_stepped after frames_sealed ids_stepped
   post_does step i x choice s none =
       let makes : [] ≡ calls_of i choice.read s.lower.streams = none_called i choice.read s.lower.streams none in
       record { steps = []; asked = []; leads = refl; same = λ done. refl; are = other_are i x choice.read [] [] s.lower.streams none makes (none_are s.lower.streams) }
 
+  -- nor do ids that are given
+  issue_does : (time : ℕ) (given : List IssuedCid) (i : Input) (x : TraceStep) (choice : Choice) (s : View t) → is_streams_call i ≡ false → let b : At t = move_to (Issue time given) (began s (time_of i)) in Over b.did ((i, x) ∷ []) [] s b.state
+  unfolding began move_to state_move lower_move deeds_move ids_stepped after
+  issue_does time given i x choice s none =
+      let makes : [] ≡ calls_of i choice.read s.lower.streams = none_called i choice.read s.lower.streams none in
+      record { steps = []; asked = []; leads = refl; same = λ done. refl; are = other_are i x choice.read [] [] s.lower.streams none makes (none_are s.lower.streams) }
+
   input_does : (m : Meaning t) (i : Input) (x : TraceStep) (choice : Choice) (s : View t) → IsAllowed m i choice (began s (time_of i)) → x.answer ≡ answer_of m i choice (began s (time_of i)) → Does m i x choice s
-  unfolding began state_move lower_move input_after IsAllowed answer_of
+  unfolding began state_move lower_move input_after IsAllowed answer_of frames_sealed ids_stepped
   input_does m (input.Datagram time remote ecn bytes) x choice s may answers = other_does m (input.Datagram time remote ecn bytes) x choice s refl may
   input_does m (input.Timeout time) x choice s may answers = other_does m (input.Timeout time) x choice s refl may
   input_does m (input.Transmit time max) x choice s may answers = other_does m (input.Transmit time max) x choice s refl may
@@ -248,6 +256,7 @@ module _ {t : Types} where
   input_does m (input.Ping time) x choice s may answers = other_does m (input.Ping time) x choice s refl may
   input_does m (input.SendDatagram time body) x choice s may answers = post_does (datagrams.Sent (datagram_limit (began s time).state) body) (input.SendDatagram time body) x choice s refl
   input_does m (input.RecvDatagram time) x choice s may answers = post_does datagrams.Taken (input.RecvDatagram time) x choice s refl
+  input_does m (input.Identifiers time given) x choice s may answers = issue_does time given (input.Identifiers time given) x choice s refl
   input_does m i x choice s may answers =
       let a : At t = began s (time_of i) in
       let xs : List Step = calls_of i choice.read s.lower.streams in
@@ -257,7 +266,7 @@ module _ {t : Types} where
   -- ---- steps and runs
 
   pub step_over : (m : Meaning t) (k : ℕ) (s : View t) (i : Input) (x : TraceStep) (s' : View t) → IsStep m k s i x s' → Over x.did ((i, x) ∷ []) (streams_told x.events) s s'
-  unfolding called run.step_after reported state_move lower_move events_told streams_stepped datagrams_stepped
+  unfolding called run.step_after reported state_move lower_move events_told streams_stepped datagrams_stepped frames_sealed ids_stepped
   step_over m k s i x s' h =
       let b : At t = input_after m i h.choice (began s (time_of i)) in
       let told : List StreamEvent = events_of b.state.lower.streams in

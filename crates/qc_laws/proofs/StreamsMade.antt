@@ -86,6 +86,7 @@ given_append (did.Gave layer.Streams body ∷ ds) es = ap (λ (bodies : List (Li
 given_append (did.Gave layer.Session body ∷ ds) es = given_append ds es
 given_append (did.Gave layer.Recovery body ∷ ds) es = given_append ds es
 given_append (did.Gave layer.Life body ∷ ds) es = given_append ds es
+given_append (did.Gave layer.Ids body ∷ ds) es = given_append ds es
 given_append (did.Piece space number v ∷ ds) es = given_append ds es
 given_append (did.Sealed space n epoch early fs ∷ ds) es = given_append ds es
 given_append (did.Rose life ∷ ds) es = given_append ds es
@@ -358,6 +359,7 @@ told_are (did.Piece space number v) s h k = apart_are (did.Piece space number v 
 told_are (did.Gave layer.Session body) s h k = apart_are (did.Gave layer.Session body ∷ []) s refl refl refl
 told_are (did.Gave layer.Recovery body) s h k = apart_are (did.Gave layer.Recovery body ∷ []) s refl refl refl
 told_are (did.Gave layer.Life body) s h k = apart_are (did.Gave layer.Life body ∷ []) s refl refl refl
+told_are (did.Gave layer.Ids body) s h k = apart_are (did.Gave layer.Ids body ∷ []) s refl refl refl
 told_are (did.Gave layer.Streams body) s h k = absurd k
 told_are _ s h k = absurd h
 

@@ -26,7 +26,7 @@ use Rattle.qc_state.specs.Forms.{is_early, number_space}
 use Rattle.qc_state.specs.Headline.{deeds_of}
 use Rattle.qc_state.specs.Keys.{epoch_in, has_keys_for}
 use Rattle.qc_state.specs.Life.{is_drained, is_open}
-use Rattle.qc_state.specs.Moves.{Ack, Arm, Ask, Begin, Clock, Establish, Expect, Finish, Fire, Forget, Give, Hear, MayMove, Move, Pace, Raise, Release, ReportConnected, ReportDrained, ReportLost, ReportNotices, ReportReady, Say, Seal, Shut, Skip, Tell, Write, armed_after, armed_with, deeds_move, keys_move, move_to, paths_move, state_move, Call, ReportStreams, Post, ReportAllHeard}
+use Rattle.qc_state.specs.Moves.{Ack, Arm, Ask, Begin, Clock, Establish, Expect, Finish, Fire, Forget, Give, Hear, MayMove, Move, Pace, Raise, Release, ReportConnected, ReportDrained, ReportLost, ReportNotices, ReportReady, Say, Seal, Shut, Skip, Tell, Write, armed_after, armed_with, deeds_move, keys_move, move_to, paths_move, state_move, Call, ReportStreams, Post, ReportAllHeard, Outlive, Want, Issue}
 use Rattle.qc_state.specs.Numbers.{next_number}
 use Rattle.qc_state.specs.Paths.{is_blocked, path_idle, path_kept}
 use Rattle.qc_state.specs.Receiving.{counted_after, cut_of, datagram_after, first_after, first_token, heard_after, pieces_after}
@@ -35,7 +35,7 @@ use Rattle.qc_state.specs.Run.{IsAllowed, IsStep, Run, began, called, close_afte
 use Rattle.qc_state.specs.Sending.{Choice, Died, Ending, Going, Hushed, MayAll, MayEnd, MayFollow, MayTransmit, Sent, Went, begun_after, drops_initial, ending_after, finished_after, flown_after, going_from, gone_after, handshake_left, initial_left, is_flown, packet_after, packets_after, sealed_in, spared_after, transmit_after}
 use Rattle.qc_state.specs.Stopping.{given_after, key_limit_error, killed_after}
 use Rattle.qc_laws.specs.TimerLaws.{KeepsTimer, TimerHolds, awaits_ack, elicits_in, has_asked, has_probe_keys, must_probe, sealed_since}
-use Rattle.qc_state.specs.Timeouts.{ack_expired, close_expired, idle_expired, loss_expired, pacing_expired, timeout_after}
+use Rattle.qc_state.specs.Timeouts.{ack_expired, close_expired, idle_expired, loss_expired, pacing_expired, timeout_after, ids_expired, wanted_anew}
 use Rattle.qc_state.specs.Timers.{has_come}
 use Rattle.qc_state.specs.Types.{Types, Meaning}
 use Rattle.qc_state.specs.View.{View, At}
@@ -54,6 +54,7 @@ use Rattle.qc_state.proofs.Transmitted.{begins_keyed}
 use Rattle.qc_laws.proofs.TimerMoves.{HoldsIf, IsFree, IsPlain, arm_holds, holds_if, plain_free, plain_holds, sealed_holds, since_append, timer_holds}
 use Rattle.qc_laws.proofs.StreamCalls.{called_input}
 use Rattle.qc_datagrams.specs.Steps as datagrams
+use Rattle.qc_cids.specs.Cids.{asks_anew}
 
 module _ {t : Types} where
   -- from one moment to another the law holds on, in a time in which datagrams may be begun, or not
@@ -252,6 +253,8 @@ module _ {t : Types} where
   timed_blocked (Arm at) h a = refl
   timed_blocked Pace h a = refl
   timed_blocked Release h a = refl
+  timed_blocked Outlive h a = refl
+  timed_blocked (Want time count) h a = refl
   timed_blocked (Raise to) h a = refl
   timed_blocked (Give why) h a = refl
   timed_blocked _ h a = absurd h
@@ -270,19 +273,27 @@ module _ {t : Types} where
   idle_keeps m free why a true = keeps_killed m free why a
   idle_keeps m free why a false = keeps_here free a
 
+  outlived_keeps : (m : Meaning t) (free : Bool) (time : ℕ) (a : At t) (b : Bool) → Keeps free a (if b then wanted_anew time (asks_anew a.state.lower.ids) (move_to Outlive a) else a)
+  outlived_keeps m free time a true =
+      let b : At t = move_to Outlive a in
+      keeps_next free a b (wanted_anew time (asks_anew a.state.lower.ids) b) (keeps_plain m free Outlive a tt) (plain_if m free (Want time (asks_anew a.state.lower.ids)) b (is_open b.state.life.state) tt)
+  outlived_keeps m free time a false = keeps_here free a
+
   alive_keeps : (m : Meaning t) (free : Bool) (time : ℕ) (a : At t) (b : Bool) → (free ≡ true → is_blocked a.state.paths ≡ false) →
-      Keeps free a (if b then a else ack_expired time (pacing_expired time (close_expired time (idle_expired time (loss_expired m time a)))))
-  unfolding loss_expired idle_expired close_expired pacing_expired ack_expired
+      Keeps free a (if b then a else ack_expired time (ids_expired time (pacing_expired time (close_expired time (idle_expired time (loss_expired m time a))))))
+  unfolding loss_expired idle_expired close_expired pacing_expired ids_expired ack_expired
   alive_keeps m free time a true unblocked = keeps_here free a
   alive_keeps m free time a false unblocked =
       let b : At t = loss_expired m time a in
       let c : At t = idle_expired time b in
       let d : At t = close_expired time c in
       let e : At t = pacing_expired time d in
+      let f : At t = ids_expired time e in
       keeps_next free a b _ (loss_keeps m free time a (has_come a.state.timers.loss_detection time) unblocked)
       (keeps_next free b c _ (idle_keeps m free lost.TimedOut b (has_come b.state.timers.idle time))
       (keeps_next free c d _ (plain_if m free (Raise state.Drained) c (has_come c.state.timers.close time) refl)
-      (keeps_next free d e _ (plain_if m free Pace d (has_come d.state.timers.pacing time) tt) (plain_if m free Release e (has_come e.state.timers.max_ack_delay time) tt))))
+      (keeps_next free d e _ (plain_if m free Pace d (has_come d.state.timers.pacing time) tt)
+      (keeps_next free e f _ (outlived_keeps m free time e (has_come e.state.timers.push_new_cid time)) (plain_if m free Release f (has_come f.state.timers.max_ack_delay time) tt)))))
 
   timeout_keeps : (m : Meaning t) (free : Bool) (time : ℕ) (a : At t) → (free ≡ true → is_blocked a.state.paths ≡ false) → Keeps free a (timeout_after m time a)
   unfolding timeout_after
@@ -394,6 +405,7 @@ module _ {t : Types} where
   input_holds m (input.Ping time) choice a ends may = holds_plain m (Ask a.state.keys.highest) a tt refl
   input_holds m (input.SendDatagram time body) choice a ends may = holds_plain m (Post (datagrams.Sent (datagram_limit a.state) body)) a tt refl
   input_holds m (input.RecvDatagram time) choice a ends may = holds_plain m (Post datagrams.Taken) a tt refl
+  input_holds m (input.Identifiers time given) choice a ends may = holds_plain m (Issue time given) a tt refl
   input_holds m i choice a ends may = called_input Holds holds_here holds_next (λ x b h. holds_plain m (Call x) b tt refl) i choice.read a may
 
   -- so of another view with the same life, path, timer, keys, setup and packets in flight

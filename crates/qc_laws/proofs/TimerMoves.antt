@@ -30,15 +30,14 @@ use Rattle.qc_state.specs.declared.timers.Timers.{Timers}
 use Rattle.qc_state.specs.Acks.{is_ack}
 use Rattle.qc_state.specs.Flight.{counts_in_flight, flown_packet, is_padding}
 use Rattle.qc_state.specs.Forms.{number_space}
-use Rattle.qc_state.specs.Life.{connected_reported, data_ready, drained_reported, identifiers_wanted, is_established, is_handshake, is_open, life_closed, life_drained, life_established, life_raised, lost_reported, notice_reported, notices_reported, rank_of, ready_reported, reason_given, token_learned, all_heard_reported, heard_reported, datagram_heard}
-use Rattle.qc_state.specs.Lower.{bytes_came, flight_dropped, packet_flown, packets_settled, session_read, session_wrote, timer_fired, limits_learned, frame_handed, streams_closed, streams_stepped, event_told, events_told, datagrams_stepped}
-use Rattle.qc_state.specs.Moves.{Accept, Ack, AreNext, Arm, Begin, Establish, Fail, Finish, Fire, Forget, Give, Hear, IsTold, Move, PeerCloses, PeerClosesToo, Raise, Seal, Shut, Take, Tell, Write, armed_with, deeds_move, keys_move, life_move, lower_move, move_to, paths_move, setup_move, state_move, timers_move, waiting_move, Hand, told_to_streams}
-use Rattle.qc_state.specs.Paths.{is_blocked, path_accepted, path_idle, path_kept, path_spun, peer_fixed}
+use Rattle.qc_state.specs.Life.{connected_reported, data_ready, drained_reported, identifiers_wanted, is_established, is_handshake, is_open, life_closed, life_drained, life_established, life_raised, lost_reported, notice_reported, notices_reported, rank_of, ready_reported, reason_given, token_learned, all_heard_reported, heard_reported, datagram_heard, is_drained}
+use Rattle.qc_state.specs.Lower.{bytes_came, flight_dropped, packet_flown, packets_settled, session_read, session_wrote, timer_fired, limits_learned, frame_handed, streams_closed, streams_stepped, event_told, events_told, datagrams_stepped, frames_sealed, ids_stepped}
+use Rattle.qc_state.specs.Moves.{Accept, Ack, AreNext, Arm, Begin, Establish, Fail, Finish, Fire, Forget, Give, Hear, IsTold, Move, PeerCloses, PeerClosesToo, Raise, Seal, Shut, Take, Tell, Write, armed_with, deeds_move, keys_move, life_move, lower_move, move_to, paths_move, setup_move, state_move, timers_move, waiting_move, Hand, told_to_streams, Insert, Switch, Retire, Issue}
+use Rattle.qc_state.specs.Paths.{is_blocked, path_accepted, path_idle, path_kept, path_spun, peer_fixed, path_named}
 use Rattle.qc_state.specs.Recovering.{around_of, fired_by, is_validated_by_peer, loss_time, settled_by}
 use Rattle.qc_state.specs.Sending.{flown_after, is_flown, packet_size, sealed_in}
-use Rattle.qc_state.specs.StreamFrames.{sealed_steps}
 use Rattle.qc_laws.specs.TimerLaws.{FlightHolds, SpaceHolds, TimerHolds, awaits_ack, elicits_in, has_asked, has_probe_keys, must_probe, sealed_since}
-use Rattle.qc_state.specs.Timers.{clock_set, timers_accepted, timers_acking, timers_armed, timers_holding, timers_paced, timers_released, timers_sealed}
+use Rattle.qc_state.specs.Timers.{clock_set, timers_accepted, timers_acking, timers_armed, timers_holding, timers_paced, timers_released, timers_sealed, timers_issued, timers_outlived}
 use Rattle.qc_state.specs.Types.{Types, Meaning}
 use Rattle.qc_state.specs.View.{View, At, at}
 use Rattle.qc_state.specs.Waiting.{waiting_without}
@@ -57,8 +56,11 @@ use Rattle.qc_laws.proofs.CryptoBuffers.{or_either, or_left, or_right}
 use Rattle.qc_laws.proofs.EndsHold.{low_open}
 use Rattle.qc_laws.proofs.KnownMoves.{IsFiredBy, IsSettledBy}
 use Rattle.qc_laws.proofs.TimerFlights.{Less, ack_less, armed_alone, armed_some, dropped_each, fire_less, kept_asked, kept_greatest, less_holds, sent_each}
-use Rattle.qc_laws.proofs.StreamCalls.{handed_told, heard_state}
+use Rattle.qc_laws.proofs.StreamCalls.{handed_told, heard_state, named_state, retired_state}
 use Rattle.qc_state.specs.Datagrams.{tells_datagram}
+use Rattle.qc_cids.specs.Cids.{asks_one, next_token, token_by}
+use Rattle.qc_ids.specs.LocalCids.{may_retire}
+use Rattle.qc_state.specs.Ids.{active_limit}
 
 -- ---- deeds
 
@@ -188,6 +190,12 @@ module _ {H P : Type 0} where
   used_space v w f n id is h e =
       ap (λ (k : KeyGroup H P). is_below k.highest id) is ∙ ap (λ (x : SpaceId). is_below x id) (used_highest v f n) ∙ h (sym (used_same v f n id) ∙ ap (λ (k : KeyGroup H P). has_keys k id) (sym is) ∙ e)
 
+-- ids that are given leave the loss timer
+issued_loss : (b : Bool) (v : Timers) (oldest : Option ℕ) (time : ℕ) → (if b then v else timers_issued v oldest time).loss_detection ≡ v.loss_detection
+unfolding timers_issued
+issued_loss true v oldest time = refl
+issued_loss false v oldest time = refl
+
 module _ {t : Types} where
   abbrev pub Spaces : View t → Type 0
   Spaces s = (id : SpaceId) → SpaceHolds s id
@@ -255,11 +263,11 @@ module _ {t : Types} where
 
   -- a timer that is set changes nothing else
   armed_same : (due : Option ℕ) (since : Bool) (s : View t) → (awaits_ack since (state_move (Arm due) s) || must_probe (state_move (Arm due) s)) ≡ (awaits_ack since s || must_probe s)
-  unfolding state_move life_move lower_move keys_move setup_move awaits_ack elicits_in must_probe is_validated_by_peer has_probe_keys has_asked
+  unfolding state_move life_move lower_move keys_move setup_move awaits_ack elicits_in must_probe is_validated_by_peer has_probe_keys has_asked frames_sealed ids_stepped
   armed_same due since s = refl
 
   armed_spaces : (due : Option ℕ) (s : View t) → Spaces s → Spaces (state_move (Arm due) s)
-  unfolding state_move lower_move keys_move
+  unfolding state_move lower_move keys_move frames_sealed ids_stepped
   armed_spaces due s h = λ id. record { flight = (h id).flight; keyed = (h id).keyed; below = (h id).below }
 
   pub arm_holds : (free since blocked : Bool) (time : ℕ) (s : View t) → (free ≡ true → blocked ≡ false) → Spaces s → HoldsIf free since (state_move (Arm (loss_time s blocked time)) s)
@@ -285,10 +293,11 @@ module _ {t : Types} where
   IsPlain m _ s = Unit {0}
 
   plain_timer : (m : Meaning t) (x : Move t) (s : View t) → IsPlain m x s → is_open (life_move x s).state ≡ true → (timers_move x s).loss_detection ≡ s.timers.loss_detection
-  unfolding timers_move life_move life_closed life_drained life_raised clock_set timers_paced timers_released timers_accepted
+  unfolding timers_move life_move life_closed life_drained life_raised clock_set timers_paced timers_released timers_accepted timers_outlived
   plain_timer m (Seal time form n size fs) s h o = absurd h
   plain_timer m (Arm at) s h o = absurd h
   plain_timer m (Accept time id n e g v) s h o = held_loss _ _ time
+  plain_timer m (Issue time given) s h o = issued_loss (is_drained s.life.state) s.timers _ time
   plain_timer m (Shut time close) s h o = cc
   plain_timer m (PeerCloses time) s h o = cc
   plain_timer m (Raise to) s h o = let end : is_open to ≡ false = ap is_open h in cc
@@ -303,6 +312,9 @@ module _ {t : Types} where
   plain_open m (Raise to) s k h = let end : is_open to ≡ false = ap is_open k in cc
   plain_open m (Give why) s k h = ap is_open (sym (given_same s.life why (is_none s.life.reason))) ∙ h
   plain_open m (Hand frame) s k h = ap is_open (sym (heard_state (tells_datagram frame s.lower.datagrams) s.life)) ∙ h
+  plain_open m (Insert new) s k h = ap is_open (sym (named_state (token_by new s.lower.ids.remote) s.life s.paths.current.remote)) ∙ h
+  plain_open m Switch s k h = ap is_open (sym (named_state (next_token s.lower.ids.remote) s.life s.paths.current.remote)) ∙ h
+  plain_open m (Retire time n) s k h = ap is_open (sym (retired_state (may_retire n s.lower.ids.local) s.life time n (asks_one (active_limit s.setup.peer) n s.lower.ids))) ∙ h
   plain_open m _ s k h = h
 
   -- what was sealed since the handshake was over was sealed before, and then it was over
@@ -320,10 +332,14 @@ module _ {t : Types} where
       let same : sealed_since since (told_to_streams frame) ≡ since = handed_told (λ ds. sealed_since since ds ≡ since) frame refl (λ body. refl) in
       let life : (datagram_heard (tells_datagram frame s.lower.datagrams) s.life).state ≡ s.life.state = heard_state (tells_datagram frame s.lower.datagrams) s.life in
       sym (λ i. same i && is_established (life i)) ∙ h
+  plain_since m (Insert new) s since k h = ap (λ (x : State). since && is_established x) (sym (named_state (token_by new s.lower.ids.remote) s.life s.paths.current.remote)) ∙ h
+  plain_since m Switch s since k h = ap (λ (x : State). since && is_established x) (sym (named_state (next_token s.lower.ids.remote) s.life s.paths.current.remote)) ∙ h
+  plain_since m (Retire time n) s since k h =
+      ap (λ (x : State). since && is_established x) (sym (retired_state (may_retire n s.lower.ids.local) s.life time n (asks_one (active_limit s.setup.peer) n s.lower.ids))) ∙ h
   plain_since m _ s since k h = h
 
   plain_elicits : (m : Meaning t) (x : Move t) (s : View t) (id : SpaceId) → IsPlain m x s → elicits_in (state_move x s) id ≡ true → elicits_in s id ≡ true
-  unfolding elicits_in state_move lower_move packets_settled timer_fired flight_dropped bytes_came session_read session_wrote limits_learned frame_handed streams_closed streams_stepped datagrams_stepped event_told events_told settled_by fired_by dropped_after space_dropped
+  unfolding elicits_in state_move lower_move packets_settled timer_fired flight_dropped bytes_came session_read session_wrote limits_learned frame_handed streams_closed streams_stepped datagrams_stepped event_told events_told settled_by fired_by dropped_after space_dropped frames_sealed ids_stepped
   plain_elicits m (Seal time form n size fs) s id k h = absurd k
   plain_elicits m (Ack space n after) s id k h =
       (ack_less m.control _ id space _ _ _ _ _ s.lower.recovery s.paths.current.kept).any (λ (e : Entry). e.1.ack_eliciting) (subst (λ (a : After t.C). has_eliciting (recovery.space_of id a.recovery).flight ≡ true) k.is h)
@@ -343,15 +359,15 @@ module _ {t : Types} where
   }
 
   settled_less : (m : Meaning t) (space id : SpaceId) (n : ℕ) (after : After t.C) (s : View t) → IsSettledBy m space after s → Less (recovery.space_of id s.lower.recovery) (recovery.space_of id (state_move (Ack space n after) s).lower.recovery)
-  unfolding state_move lower_move streams_stepped packets_settled settled_by
+  unfolding state_move lower_move streams_stepped packets_settled settled_by frames_sealed ids_stepped
   settled_less m space id n after s k = subst (λ (a : After t.C). Less (recovery.space_of id s.lower.recovery) (recovery.space_of id a.recovery)) (sym k.is) (ack_less m.control _ id space _ _ _ _ _ s.lower.recovery s.paths.current.kept)
 
   fired_less : (m : Meaning t) (id : SpaceId) (after : FiredAfter t.C) (s : View t) → IsFiredBy m after s → Less (recovery.space_of id s.lower.recovery) (recovery.space_of id (state_move (Fire after) s).lower.recovery)
-  unfolding state_move lower_move streams_stepped timer_fired fired_by
+  unfolding state_move lower_move streams_stepped timer_fired fired_by frames_sealed ids_stepped
   fired_less m id after s k = subst (λ (a : FiredAfter t.C). Less (recovery.space_of id s.lower.recovery) (recovery.space_of id a.recovery)) (sym k.is) (fire_less m.control _ id _ s.lower.recovery s.paths.current.kept)
 
   forget_space : (space : SpaceId) (s : View t) → Spaces s → (id : SpaceId) → SpaceHolds (state_move (Forget space) s) id
-  unfolding state_move lower_move keys_move flight_dropped
+  unfolding state_move lower_move keys_move flight_dropped frames_sealed ids_stepped
   forget_space space s h id = record {
     flight = dropped_each id space s.lower.recovery (λ x. (h x).flight);
     keyed = dropped_keyed s.keys s.lower.recovery id space (h id).keyed;
@@ -359,15 +375,15 @@ module _ {t : Types} where
   }
 
   write_space : (bytes : List ℕ) (keys : NewKeys t.H t.P) (session : t.S) (s : View t) → AreNext keys s.keys.highest → (id : SpaceId) → SpaceHolds s id → SpaceHolds (state_move (Write bytes keys session) s) id
-  unfolding state_move lower_move keys_move session_wrote
+  unfolding state_move lower_move keys_move session_wrote frames_sealed ids_stepped
   write_space bytes keys session s next id h = record { flight = h.flight; keyed = λ e. given_more s.keys keys id (h.keyed e); below = given_below s.keys keys id next h.below }
 
   fail_space : (s : View t) (id : SpaceId) → SpaceHolds s id → SpaceHolds (state_move Fail s) id
-  unfolding state_move lower_move keys_move failure_counted
+  unfolding state_move lower_move keys_move failure_counted frames_sealed ids_stepped
   fail_space s id h = record { flight = h.flight; keyed = λ e. failed_same s.keys id ∙ h.keyed e; below = λ e. h.below (sym (failed_same s.keys id) ∙ e) }
 
   begun_space : (space : SpaceId) (opens : Bool) (s : View t) (id : SpaceId) → SpaceHolds s id → SpaceHolds (state_move (Begin space opens) s) id
-  unfolding state_move lower_move streams_stepped keys_move
+  unfolding state_move lower_move streams_stepped keys_move frames_sealed ids_stepped
   begun_space space opens s id h = record {
     flight = subst (λ (l : Lower t.S). FlightHolds (recovery.space_of id l.recovery)) (sym (begun_streams space opens s)) h.flight;
     keyed = λ e. h.keyed (ap (λ (l : Lower t.S). is_some (recovery.space_of id l.recovery).eliciting_at) (sym (begun_streams space opens s)) ∙ e);
@@ -375,7 +391,7 @@ module _ {t : Types} where
   }
 
   plain_spaces : (m : Meaning t) (x : Move t) (s : View t) → IsPlain m x s → Spaces s → Spaces (state_move x s)
-  unfolding state_move lower_move keys_move bytes_came session_read limits_learned frame_handed streams_closed streams_stepped datagrams_stepped event_told events_told
+  unfolding state_move lower_move keys_move bytes_came session_read limits_learned frame_handed streams_closed streams_stepped datagrams_stepped event_told events_told frames_sealed ids_stepped
   plain_spaces m (Seal time form n size fs) s k h = absurd k
   plain_spaces m (Ack space n after) s k h = λ id. less_space s (state_move (Ack space n after) s) id refl (settled_less m space id n after s k) (h id)
   plain_spaces m (Fire after) s k h = λ id. less_space s (state_move (Fire after) s) id refl (fired_less m id after s k) (h id)
@@ -398,7 +414,7 @@ module _ {t : Types} where
   }
 
   write_before : (bytes : List ℕ) (keys : NewKeys t.H t.P) (session : t.S) (s : View t) → AreNext keys s.keys.highest → Spaces s → Before s (state_move (Write bytes keys session) s)
-  unfolding state_move lower_move keys_move setup_move session_wrote has_asked has_probe_keys
+  unfolding state_move lower_move keys_move setup_move session_wrote has_asked has_probe_keys frames_sealed ids_stepped
   write_before bytes keys session s next h = record {
     side = refl;
     greatest = λ id g. g;
@@ -413,7 +429,7 @@ module _ {t : Types} where
       asked_either false y e = cc
 
   forget_move : (space : SpaceId) (s : View t) → is_space space «Data» ≡ false → Before s (state_move (Forget space) s)
-  unfolding state_move lower_move keys_move setup_move flight_dropped
+  unfolding state_move lower_move keys_move setup_move flight_dropped frames_sealed ids_stepped
   forget_move space s other = forget_before space s (state_move (Forget space) s) other refl refl refl
 
   settled_before : (m : Meaning t) (space : SpaceId) (n : ℕ) (after : After t.C) (s : View t) → IsSettledBy m space after s → Before s (state_move (Ack space n after) s)
@@ -425,7 +441,7 @@ module _ {t : Types} where
   fired_before m after s k = less_before s (state_move (Fire after) s) refl refl (λ id. fired_less m id after s k)
 
   plain_probe : (m : Meaning t) (x : Move t) (s : View t) → IsPlain m x s → Spaces s → must_probe (state_move x s) ≡ true → must_probe s ≡ true
-  unfolding must_probe is_validated_by_peer has_probe_keys has_asked state_move lower_move keys_move setup_move bytes_came session_read limits_learned frame_handed streams_closed streams_stepped datagrams_stepped event_told events_told failure_counted has_keys has_keys_for form_in token_expected parameters_known word_drawn
+  unfolding must_probe is_validated_by_peer has_probe_keys has_asked state_move lower_move keys_move setup_move bytes_came session_read limits_learned frame_handed streams_closed streams_stepped datagrams_stepped event_told events_told failure_counted has_keys has_keys_for form_in token_expected parameters_known word_drawn frames_sealed ids_stepped
   plain_probe m (Seal time form n size fs) s k h e = absurd k
   plain_probe m (Ack space n after) s k h e = before_probes s (state_move (Ack space n after) s) (settled_before m space n after s k) e
   plain_probe m (Fire after) s k h e = before_probes s (state_move (Fire after) s) (fired_before m after s k) e
@@ -456,7 +472,7 @@ module _ {t : Types} where
   IsFree _ = Unit {0}
 
   pub plain_free : (x : Move t) (s : View t) → IsFree x → is_blocked s.paths ≡ false → is_blocked (paths_move x s) ≡ false
-  unfolding paths_move peer_fixed path_idle path_kept is_blocked
+  unfolding paths_move peer_fixed path_idle path_kept path_named is_blocked
   plain_free (Finish bytes) s k h = absurd k
   plain_free (Hear bytes) s k h = absurd k
   plain_free (Accept time id n e g v) s k h = spun_free (path_accepted s.paths id v) s.setup.fixed.side _ g.spin (accepted_free s.paths id v h)
@@ -553,8 +569,8 @@ module _ {t : Types} where
           (elicits_in s «Data») (elicits_in s1 «Data») (flown_elicits s s1 time size n f fs sealed (silent_fs fs is) «Data»))) w
 
   sealed_from : (time n size : ℕ) (f : Form) (fs : List FrameValue) (s : View t) → IsSealedFrom s (state_move (Seal time f n size fs) (state_move (Take (number_space f) fs) s)) s.waiting.close_owed time size n f fs
-  unfolding state_move life_move lower_move streams_stepped timers_move waiting_move waiting_without keys_move setup_move packet_drawn
-  sealed_from time n size f fs s = record { life = refl; recovery = flown_recovery s.waiting.close_owed (streams_stepped (sealed_steps fs) s.lower) (number_space f) n (flown_packet time size fs); timer = sealed_loss s.timers _ _ time (list_any elicits fs) (list_any is_ack fs); keys = refl; side = refl }
+  unfolding state_move life_move lower_move streams_stepped datagrams_stepped timers_move waiting_move waiting_without keys_move setup_move packet_drawn frames_sealed ids_stepped
+  sealed_from time n size f fs s = record { life = refl; recovery = flown_recovery s.waiting.close_owed (frames_sealed fs s.lower) (number_space f) n (flown_packet time size fs); timer = sealed_loss s.timers _ _ time (list_any elicits fs) (list_any is_ack fs); keys = refl; side = refl }
 
   pub sealed_holds : (free since : Bool) (time : ℕ) (f : Form) (fs : List FrameValue) (a : At t) → (a.state.waiting.close_owed ≡ true → is_open a.state.life.state ≡ false) → has_keys_for a.state.keys f ≡ true → HoldsIf free since a.state →
       HoldsIf free (since || counts_in_flight fs) (sealed_in time f fs a).state

@@ -14,7 +14,7 @@ use Rattle.qc_state.specs.Forms.{number_space}
 use Rattle.qc_state.specs.Headline as headline
 use Rattle.qc_state.specs.Headline.{deeds_of, reasons_in, lives_in, entered_in, EachNew, CloseFrom, RisesFrom, Kernel, IsBehind, Tells, EachRises, EachAdmitted, LifeRises, OnlyCloses, LosesOnce}
 use Rattle.qc_state.specs.Life.{rank_of, is_open, ready_reported, connected_reported, lost_reported, notice_reported, notices_reported, drained_reported, all_heard_reported}
-use Rattle.qc_state.specs.Moves.{Ask, Take, Seal, Shut, state_move, move_to, MayMove, numbers_move, keys_move, life_move, timers_move, Call, Post}
+use Rattle.qc_state.specs.Moves.{Ask, Take, Seal, Shut, state_move, move_to, MayMove, numbers_move, keys_move, life_move, timers_move, Call, Post, Issue}
 use Rattle.qc_state.specs.Numbers.{next_number, came_in}
 use Rattle.qc_state.specs.Run.{time_of, began, close_after, input_after, called, reported, step_after, IsAllowed, IsStep, Run, Ran, datagram_limit}
 use Rattle.qc_state.specs.Sending.{transmit_after, MayTransmit, packet_size, Choice}
@@ -61,6 +61,7 @@ module _ {t : Types} where
   told_input id m (input.Ping time) choice a h = told_move id (Ask a.state.keys.highest) a tt
   told_input id m (input.SendDatagram time body) choice a h = told_move id (Post (datagrams.Sent (datagram_limit a.state) body)) a refl
   told_input id m (input.RecvDatagram time) choice a h = told_move id (Post datagrams.Taken) a refl
+  told_input id m (input.Identifiers time given) choice a h = told_move id (Issue time given) a h
   told_input id m i choice a h = called_input (Told id) (told_here id) (told_next id) (λ x b may. told_move id (Call x) b may) i choice.read a h
 
   step_tells : (id : SpaceId) (m : Meaning t) (k : ℕ) (s : View t) (i : Input) (x : Step) (s' : View t) → IsStep m k s i x s' → Tells id (kernel id s) x.did (kernel id s')

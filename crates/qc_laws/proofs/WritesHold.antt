@@ -153,6 +153,7 @@ module _ {t : Types} where
   called_deeds m (input.Ping time) choice a h = cc
   called_deeds m (input.SendDatagram time body) choice a h = cc
   called_deeds m (input.RecvDatagram time) choice a h = cc
+  called_deeds m (input.Identifiers time given) choice a h = cc
   called_deeds m i choice a h = called_did (calls_of i choice.read a.state.lower.streams) a
 
 module _ (side : Side) (transport : TransportValues) {t : Types} (m : Meaning t) where

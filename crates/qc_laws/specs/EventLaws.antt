@@ -4,7 +4,7 @@ use Rattle.std.specs.List.{list_all}
 use Rattle.qc_state.specs.declared.deeds.Did.{Did}
 use Rattle.qc_state.specs.declared.deeds.Did.TheVariants.{Piece, Gave, Sealed, Rose, Lost, Quiet}
 use Rattle.qc_state.specs.declared.events.EndpointEvent.{EndpointEvent}
-use Rattle.qc_state.specs.declared.events.EndpointEvent.TheVariants.{ResetToken, NeedIdentifiers, Drained}
+use Rattle.qc_state.specs.declared.events.EndpointEvent.TheVariants.{ResetToken, NeedIdentifiers, RetireConnectionId, Drained}
 use Rattle.qc_state.specs.declared.events.Event.{Event}
 use Rattle.qc_state.specs.declared.events.Event.TheVariants.{HandshakeDataReady, Connected, Stream, ConnectionLost, DatagramReceived}
 use Rattle.qc_state.specs.declared.life.ConnectionError.{ConnectionError}
@@ -36,6 +36,7 @@ abbrev pub ends_in : List EndpointEvent → ℕ
 ends_in [] = 0
 ends_in (ResetToken remote token ∷ es) = ends_in es
 ends_in (NeedIdentifiers time count ∷ es) = ends_in es
+ends_in (RetireConnectionId time sequence more ∷ es) = ends_in es
 ends_in (Drained ∷ es) = ends_in es + 1
 
 -- how often the life rises to this rank

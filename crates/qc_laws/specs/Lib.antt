@@ -3,6 +3,7 @@ pub mod CryptoLaws
 pub mod DatagramLaws
 pub mod EndLaws
 pub mod EventLaws
+pub mod IdLaws
 pub mod InitialLaws
 pub mod KeyLaws
 pub mod MarkLaws

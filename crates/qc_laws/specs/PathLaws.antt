@@ -1,5 +1,5 @@
--- Laws over whole runs, said of a path to the peer (RFC 9000, section 8.1), and of the peer's ids (section 7.2).
-use Rattle.std.specs.Prelude.{◌≡◌, ℕ, ◌+◌, ◌*◌, ◌<◌, ◌≤◌, ◌⊎◌, Bool, true, false, if◌then◌else◌, List, [], ◌∷◌, length, Some, None}
+-- Laws over whole runs, said of a path to the peer (RFC 9000, section 8.1).
+use Rattle.std.specs.Prelude.{◌≡◌, ℕ, ◌+◌, ◌*◌, ◌<◌, ◌≤◌, ◌⊎◌, Bool, true, false, if◌then◌else◌, List, [], ◌∷◌, length, Some}
 use Rattle.std.specs.List.{list_any}
 use Rattle.std.specs.declared.net.SocketAddr.{SocketAddr}
 use Rattle.qc_base.specs.declared.side.SpaceId.TheVariants.{Handshake}
@@ -9,7 +9,6 @@ use Rattle.qc_state.specs.declared.deeds.Verdict.TheVariants.{Admitted}
 use Rattle.qc_state.specs.declared.input.Input.{Input}
 use Rattle.qc_state.specs.declared.input.Input.TheVariants.{Datagram}
 use Rattle.qc_state.specs.declared.paths.Path.{Path}
-use Rattle.qc_state.specs.declared.paths.Paths.{Paths}
 use Rattle.qc_state.specs.declared.transmit.TheConstants.{DATAGRAM_SIZE}
 use Rattle.qc_state.specs.Paths.{same_address}
 
@@ -41,14 +40,3 @@ pub record PathHolds {C : Type 0} (came : ℕ) (ds : List Did) (p p' : Path C) :
   pub received : p'.received ≤ p.received + came
   pub ranged : p.received ≤ 18446744073709551615 → p'.received ≤ 18446744073709551615
   pub limited : p.received ≤ 18446744073709551615 → IsLimited p → IsLimited p'
-
--- packets carry the id that the peer chose, where it is known
-abbrev pub CarriesChosen : {C : Type 0} → Paths C → Type 0
-CarriesChosen v = (cid : List ℕ) → v.peer_cid ≡ Some cid → v.current.remote_cid ≡ cid
-
--- From some paths to others: the id that the peer chose stays, once it is known; until it is, packets carry the id that they carried;
--- and from then on they carry the chosen one, where they did so before.
-pub record IdsHold {C : Type 0} (v v' : Paths C) : Type 0 where
-  pub chosen : (cid : List ℕ) → v.peer_cid ≡ Some cid → v'.peer_cid ≡ Some cid
-  pub used : v'.peer_cid ≡ None → v'.current.remote_cid ≡ v.current.remote_cid
-  pub carried : CarriesChosen v → CarriesChosen v'

@@ -20,8 +20,9 @@ use Rattle.qc_state.specs.declared.deeds.Verdict.TheVariants as verdict
 use Rattle.qc_state.specs.declared.opening.Opening.{Opening}
 use Rattle.qc_state.specs.declared.opening.Opening.TheVariants.{Unreadable, Unopened, Reserved, Opened}
 use Rattle.qc_state.specs.Life.{is_over}
+use Rattle.qc_state.specs.Ids.{insert_stop, retire_stop, switches_for}
 use Rattle.qc_state.specs.Lower.{handed_stop, ready_bytes, stream_of}
-use Rattle.qc_state.specs.Moves.{Ack, Come, Expect, Forget, Hand, Read, move_to, state_move, told_to_streams}
+use Rattle.qc_state.specs.Moves.{Ack, Come, Expect, Forget, Hand, Insert, Read, Retire, Switch, move_to, state_move, told_to_streams}
 use Rattle.qc_state.specs.Numbers.{next_number}
 use Rattle.qc_state.specs.Opening.{opening_of}
 use Rattle.qc_state.specs.Receiving.{accepted_after, crypto_stop, cut_of, fixed_after, is_eliciting_item, piece_after, pieces_after, stop_in}
@@ -66,7 +67,7 @@ abbrev pub unless_refused : Result Bool TransportError → Outcome
 unless_refused (Err error) = Last
 unless_refused (Ok ready) = Goes
 
--- a frame that the streams or the datagrams refuse is the last one
+-- a frame that the streams, the datagrams or the ids refuse is the last one
 abbrev pub unless_stopped : Option TransportError → Outcome
 unless_stopped (Some error) = Last
 unless_stopped None = Goes
@@ -96,6 +97,8 @@ gift_of stream (frames.Ack ack) = did.Gave layer.Recovery (spelling (frames.Ack 
 gift_of stream frames.HandshakeDone = did.Gave layer.Life (spelling frames.HandshakeDone) ∷ []
 gift_of stream (frames.ConnectionClose code type reason) = did.Gave layer.Life (spelling (frames.ConnectionClose code type reason)) ∷ []
 gift_of stream (frames.ApplicationClose code reason) = did.Gave layer.Life (spelling (frames.ApplicationClose code reason)) ∷ []
+gift_of stream (frames.NewConnectionId new) = did.Gave layer.Ids (spelling (frames.NewConnectionId new)) ∷ []
+gift_of stream (frames.RetireConnectionId sequence) = did.Gave layer.Ids (spelling (frames.RetireConnectionId sequence)) ∷ []
 gift_of stream frame = told_to_streams frame
 
 module _ {t : Types} where
@@ -104,13 +107,20 @@ module _ {t : Types} where
   read_behind m id [] s = s
   read_behind m id (b ∷ bytes) s = state_move (Read id (length (b ∷ bytes)) (m.after_read s.lower.session (b ∷ bytes))) s
 
+  -- a server may take the peer's next id into use
+  abbrev pub switched_behind : Bool → View t → View t
+  switched_behind switches s = if switches then state_move Switch s else s
+
   -- the view behind a frame that came at a time, as far as it decides what becomes of those behind it: CRYPTO bytes came, and the session is
-  -- given those that can be read; an ACK settles packets, which the streams are told; a HANDSHAKE_DONE ends the Handshake space; and
+  -- given those that can be read; an ACK settles packets, which the streams are told; a HANDSHAKE_DONE ends the Handshake space; the ids
+  -- make of a NEW_CONNECTION_ID or a RETIRE_CONNECTION_ID what it is to them; and
   -- streams and datagrams make of any other what it is to them, if it is theirs
   abbrev pub view_behind : Meaning t → (time : ℕ) → SpaceId → FrameValue → View t → View t
   view_behind m time id (frames.Crypto offset body) s = read_behind m id (ready_bytes (inserted offset body (stream_of s.lower id))) (state_move (Come id offset body) s)
   view_behind m time id (frames.Ack ack) s = state_move (Ack id ack.largest (settled_by m time id ack s)) s
   view_behind m time id frames.HandshakeDone s = state_move (Forget Handshake) s
+  view_behind m time id (frames.NewConnectionId new) s = switched_behind (switches_for s.setup.fixed.side new s.lower.ids) (state_move (Insert new) s)
+  view_behind m time id (frames.RetireConnectionId sequence) s = state_move (Retire time sequence) s
   view_behind m time id frame s = state_move (Hand frame) s
 
   -- whether the session refuses bytes
@@ -124,6 +134,8 @@ module _ {t : Types} where
       refused_or (crypto_stop s id offset body) (read_outcome m s.lower.session (ready_bytes (inserted offset body (stream_of s.lower id))))
   kind_outcome m id (frames.ConnectionClose code type reason) s = close_outcome id
   kind_outcome m id (frames.ApplicationClose code reason) s = close_outcome id
+  kind_outcome m id (frames.NewConnectionId new) s = unless_stopped (insert_stop new s.lower.ids)
+  kind_outcome m id (frames.RetireConnectionId sequence) s = unless_stopped (retire_stop sequence s.lower.ids)
   kind_outcome m id frame s = unless_stopped (handed_stop frame s.lower)
 
   -- what becomes of a frame

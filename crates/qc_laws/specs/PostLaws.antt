@@ -14,12 +14,15 @@ use Rattle.qc_state.specs.declared.input.Input.TheVariants as input
 use Rattle.qc_state.specs.declared.trace.Answer.{Answer}
 use Rattle.qc_state.specs.declared.trace.Answer.TheVariants as answer
 use Rattle.qc_state.specs.declared.trace.Step.{Step as TraceStep}
-use Rattle.qc_state.specs.Datagrams.{datagram_steps, sent_answer, taken_answer, tells_datagram}
+use Rattle.qc_state.specs.declared.deeds.Did.{Did}
+use Rattle.qc_state.specs.declared.deeds.Did.TheVariants as did
+use Rattle.qc_state.specs.declared.deeds.Layer.TheVariants as layer
+use Rattle.qc_state.specs.Datagrams.{AllOldest, datagram_steps, sealed_datagrams, sent_answer, taken_answer, tells_datagram}
 use Rattle.qc_state.specs.Types.{Types}
 use Rattle.qc_state.specs.View.{View}
 use Rattle.qc_laws.specs.EventLaws.{once}
 use Rattle.qc_laws.specs.ReadLaws.{given_in}
-use Rattle.qc_laws.specs.StreamsLaws.{given_to_streams, with_steps}
+use Rattle.qc_laws.specs.StreamsLaws.{frames_sealed, with_steps}
 
 -- ---- the fold of their steps
 
@@ -34,22 +37,28 @@ abbrev pub is_told : Step → Datagrams → Bool
 is_told (Came body) d = tells_datagram (frames.Datagram body) d
 is_told _ d = false
 
+-- how many of them are, each as its turn comes
 abbrev pub count_told : List Step → Datagrams → ℕ
 count_told [] d = 0
 count_told (x ∷ xs) d = count_told xs (after_step x d) + once (is_told x d)
 
--- What is given to streams and datagrams are frames as they are spelled, and these are the steps that the datagrams make of them: of a
--- DATAGRAM frame that it comes, which they may refuse, and of any other none
-abbrev pub AreCame : List (List ℕ) → List Step → Type 0
-AreCame [] made = made ≡ []
-AreCame (body ∷ more) made = (frame : FrameValue) × (rest : List Step) × (body ≡ spelling frame) × (made ≡ datagram_steps frame ++ rest) × AreCame more rest
+-- Deeds make these steps of them, one after the other, each as its turn comes. What is given to streams and datagrams is a frame as it is
+-- spelled: a DATAGRAM frame makes that it comes, which they may refuse, and any other none. A packet that is sealed makes one step for each
+-- of its DATAGRAM frames, none left out and none made up, and each of these holds the oldest datagram that is to be sent then. Any other deed
+-- makes none.
+abbrev pub AreOfDeeds : List Did → List Step → Datagrams → Type 0
+AreOfDeeds [] made d = made ≡ []
+AreOfDeeds (did.Gave layer.Streams body ∷ ds) made d =
+    (frame : FrameValue) × (rest : List Step) × (body ≡ spelling frame) × (made ≡ datagram_steps frame ++ rest) × AreOfDeeds ds rest (after (datagram_steps frame) d)
+AreOfDeeds (did.Sealed space number epoch early fs ∷ ds) made d = (rest : List Step) × (made ≡ sealed_datagrams fs ++ rest) × AllOldest fs d × AreOfDeeds ds rest (after (sealed_datagrams fs) d)
+AreOfDeeds (_ ∷ ds) made d = AreOfDeeds ds made d
 
--- An input makes these steps of them: one that sends a datagram, or takes one, is that, and answers as they are then; `most` is how long one
--- may be, where the peer takes any. Any other makes those of the frames that its deeds give.
+-- An input makes these steps of them: one that sends a datagram, or takes one, is that, and answers as they are then, and its deeds make
+-- none; `most` is how long one may be, where the peer takes any. Any other makes those of its deeds.
 abbrev pub MakesPosts : Input → TraceStep → List Step → Datagrams → Type 0
-MakesPosts (input.SendDatagram time body) x made d = (most : Option ℕ) × (made ≡ Sent most body ∷ []) × (x.answer ≡ sent_answer (send_refusal most true body d))
-MakesPosts (input.RecvDatagram time) x made d = (made ≡ Taken ∷ []) × (x.answer ≡ taken_answer d.incoming)
-MakesPosts _ x made d = AreCame (given_to_streams x.did) made
+MakesPosts (input.SendDatagram time body) x made d = (most : Option ℕ) × (made ≡ Sent most body ∷ []) × (x.answer ≡ sent_answer (send_refusal most true body d)) × AreOfDeeds x.did [] d
+MakesPosts (input.RecvDatagram time) x made d = (made ≡ Taken ∷ []) × (x.answer ≡ taken_answer d.incoming) × AreOfDeeds x.did [] d
+MakesPosts _ x made d = AreOfDeeds x.did made d
 
 -- Steps are those of the inputs, one after the other, each as its turn comes. As many events tell that a datagram came as there are to be
 -- told, and as waited before.
@@ -60,8 +69,8 @@ ArePosts waited (call ∷ calls) xs d =
 
 module _ {t : Types} where
   -- From one view to another, over inputs whose trace is this, the datagrams made these steps, and are what they leave: those of the frames
-  -- that the deeds gave, and of the inputs that send or take one, which answer so; none is left out, none made up, and each in its turn. So
-  -- whatever holds over any steps of the datagrams holds over these.
+  -- that the deeds gave and of the DATAGRAM frames that they sealed, and of the inputs that send or take one, which answer so; none is left
+  -- out, none made up, and each in its turn. So whatever holds over any steps of the datagrams holds over these.
   pub record FoldsPosts (is : List Input) (xs : List TraceStep) (s s' : View t) : Type 0 where
     pub steps : List Step
     pub leads : s'.lower.datagrams ≡ after steps s.lower.datagrams
@@ -93,6 +102,34 @@ pub record TakesCame (calls : List (Input × TraceStep)) : Type 0 where
 -- so it is with inputs and their trace
 unfoldable pub TakesTrace : List Input → List TraceStep → Type 0
 TakesTrace is xs = TakesCame (with_steps is xs)
+
+-- ---- what is sealed
+
+-- the datagrams that DATAGRAM frames hold, in order
+abbrev pub datagrams_in : List FrameValue → List (List ℕ)
+datagrams_in [] = []
+datagrams_in (frames.Datagram body ∷ fs) = body ∷ datagrams_in fs
+datagrams_in (_ ∷ fs) = datagrams_in fs
+
+-- those in the packets that inputs seal, in order
+abbrev pub sealed_in : List (Input × TraceStep) → List (List ℕ)
+sealed_in [] = []
+sealed_in (call ∷ calls) = datagrams_in (frames_sealed call.1.did) ++ sealed_in calls
+
+-- the datagram that an input sends, where it isn't refused
+abbrev pub sent_by : Input → Answer → List (List ℕ)
+sent_by (input.SendDatagram time body) answer.Done = body ∷ []
+sent_by _ _ = []
+
+-- those that inputs send, in order
+abbrev pub sent_in : List (Input × TraceStep) → List (List ℕ)
+sent_in [] = []
+sent_in (call ∷ calls) = sent_by call.0 call.1.answer ++ sent_in calls
+
+-- What is sealed was sent: the datagrams in DATAGRAM frames of packets that are sealed are some of those that the inputs sent, in their
+-- order, each once
+unfoldable pub SealsSent : List Input → List TraceStep → Type 0
+SealsSent is xs = AreInOrder (sealed_in (with_steps is xs)) (sent_in (with_steps is xs))
 
 module _ {t : Types} where
   -- the datagrams are those of a connection that was just made

@@ -12,7 +12,7 @@ use Rattle.qc_state.specs.declared.deeds.Did.{Did}
 use Rattle.qc_state.specs.declared.deeds.Did.TheVariants as did
 use Rattle.qc_state.specs.declared.deeds.Layer.TheVariants as layer
 use Rattle.qc_state.specs.declared.input.Input.{Input}
-use Rattle.qc_state.specs.declared.input.Input.TheVariants.{Close, Datagram, Ping, Timeout, Transmit, SendDatagram, RecvDatagram}
+use Rattle.qc_state.specs.declared.input.Input.TheVariants.{Close, Datagram, Ping, Timeout, Transmit, SendDatagram, RecvDatagram, Identifiers}
 use Rattle.qc_state.specs.declared.trace.Step.{Step as TraceStep}
 use Rattle.qc_state.specs.Headline.{deeds_of, lives_in}
 use Rattle.qc_state.specs.Moves.{Move, Ack, Begin, Call, Fire, Hand, Learn, PeerCloses, PeerClosesToo, Raise, ReportStream, ReportStreams, Shut, Take, is_call}
@@ -78,6 +78,7 @@ is_streams_call (Close time code reason) = false
 is_streams_call (Ping time) = false
 is_streams_call (SendDatagram time body) = false
 is_streams_call (RecvDatagram time) = false
+is_streams_call (Identifiers time ids) = false
 is_streams_call _ = true
 
 -- inputs, each with the step of the trace that it is

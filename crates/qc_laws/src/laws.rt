@@ -12,15 +12,16 @@ ghost use Rattle.qc_laws.specs.DatagramLaws.{DatagramHolds};
 ghost use Rattle.qc_laws.specs.EndLaws.{Ends};
 ghost use Rattle.qc_laws.specs.EventLaws.{EachTells, OnlyDoneWaits, TellsOnce, untold_of};
 ghost use Rattle.qc_state.specs.Headline.{deeds_of, accepted_in, is_datagram, AcksOnly, EachAcksKnown, EachNew, Harmless, IsKept, NoneTwice};
+ghost use Rattle.qc_laws.specs.IdLaws.{FoldsIds, IdsHold};
 ghost use Rattle.qc_laws.specs.InitialLaws.{LeavesInitial};
 ghost use Rattle.qc_laws.specs.KeyLaws.{KeysHold};
 ghost use Rattle.qc_laws.specs.MarkLaws.{EachTold};
 ghost use Rattle.qc_state.specs.Opening.{opening_of};
-ghost use Rattle.qc_laws.specs.PathLaws.{IdsHold, PathHolds, all_from};
+ghost use Rattle.qc_laws.specs.PathLaws.{PathHolds, all_from};
 ghost use Rattle.qc_state.specs.Paths.{same_address};
 ghost use Rattle.qc_laws.specs.PieceLaws.{TellsDatagram, TellsPiece, given_in, piece_deed, piece_gifts, pieces_in};
 ghost use Rattle.qc_state.specs.Receiving.{datagram_after, event_after, first_packet_after, first_token, piece_after};
-ghost use Rattle.qc_laws.specs.PostLaws.{FoldsPosts, HasNewDatagrams, TakesTrace};
+ghost use Rattle.qc_laws.specs.PostLaws.{FoldsPosts, HasNewDatagrams, SealsSent, TakesTrace};
 ghost use Rattle.qc_laws.specs.ReadLaws.{HasNewStreams, ReadsTrace};
 ghost use Rattle.qc_laws.specs.RecoveryLaws.{EachSettlesOnce, Recovers};
 ghost use Rattle.qc_base.specs.declared.side.Side.{Side};
@@ -72,10 +73,18 @@ pub fn paths_hold<U: Suite>()
     ensures { (s last : View ⟦<U as Means>⟧.types) (k : ℕ) (is : List Input) (xs : List Step) → Run ⟦<U as Means>⟧.meaning k s is xs last → PathHolds (all_from s.paths.current.remote is) (deeds_of xs) s.paths.current last.paths.current }
 {}
 
-/// A law, which runs no code. Over a run the id that the peer chose stays, once it is known; until it is, packets carry the id that they
-/// carried; and from then on they carry the chosen one (RFC 9000, 7.2).
+/// A law, which runs no code. Over a run the id that the peer chose stays, once it is known (RFC 9000, 7.2); and packets carry the id of the
+/// peer's that is in use, where they did so at the start (RFC 9000, 5.1).
 pub fn ids_hold<U: Suite>()
-    ensures { (s last : View ⟦<U as Means>⟧.types) (k : ℕ) (is : List Input) (xs : List Step) → Run ⟦<U as Means>⟧.meaning k s is xs last → IdsHold s.paths last.paths }
+    ensures { (s last : View ⟦<U as Means>⟧.types) (k : ℕ) (is : List Input) (xs : List Step) → Run ⟦<U as Means>⟧.meaning k s is xs last → IdsHold s last }
+{}
+
+/// A law, which runs no code. Over a run the connection ids of both ends are what their own steps leave, one after the other. Those of frames
+/// that come are the ones of the frames that the deeds gave to the ids, refused or not; those with which ids are given are the inputs'; and
+/// those with which frames are sealed are the ones of the packets that are sealed: each in order, none left out, and none made up. So every law
+/// over their steps holds of a run (RFC 9000, 5.1).
+pub fn folds_ids<U: Suite>()
+    ensures { (s last : View ⟦<U as Means>⟧.types) (k : ℕ) (is : List Input) (xs : List Step) → Run ⟦<U as Means>⟧.meaning k s is xs last → FoldsIds is xs s last }
 {}
 
 /// A law, which runs no code. Over a run no key seals more packets than it may (RFC 9001, 6.6): each packet that is sealed under
@@ -140,9 +149,9 @@ pub fn streams_stay_within<U: Suite>()
 {}
 
 /// A law, which runs no code. Over a run the datagrams of the application are what their own steps leave, one after the other: those of the
-/// frames that the deeds gave, and of the inputs that send or take one, which answer as the datagrams are then; none is left out, none made
-/// up, and each in its turn. As many events tell that one came as came while none waited. So every law over their steps holds of a run
-/// (RFC 9221, 5).
+/// frames that the deeds gave, of the DATAGRAM frames in packets that they sealed, each of which holds the oldest datagram that was to be sent
+/// then, and of the inputs that send or take one, which answer as the datagrams are then; none is left out, none made up, and each in its
+/// turn. As many events tell that one came as came while none waited. So every law over their steps holds of a run (RFC 9221, 5).
 pub fn posts_are_folded<U: Suite>()
     ensures { (s last : View ⟦<U as Means>⟧.types) (k : ℕ) (is : List Input) (xs : List Step) → Run ⟦<U as Means>⟧.meaning k s is xs last → FoldsPosts is xs s last }
 {}
@@ -151,6 +160,12 @@ pub fn posts_are_folded<U: Suite>()
 /// frames, in their order, each once (RFC 9221, 5).
 pub fn taken_datagrams_came<U: Suite>()
     ensures { (s last : View ⟦<U as Means>⟧.types) (k : ℕ) (is : List Input) (xs : List Step) → Run ⟦<U as Means>⟧.meaning k s is xs last → HasNewDatagrams s → TakesTrace is xs }
+{}
+
+/// A law, which runs no code. Over a run from new datagrams on, those in DATAGRAM frames of packets that are sealed are some of those that the
+/// application sent, in their order, each once: none is sealed twice, and none overtakes another (RFC 9221, 5).
+pub fn sealed_datagrams_were_sent<U: Suite>()
+    ensures { (s last : View ⟦<U as Means>⟧.types) (k : ℕ) (is : List Input) (xs : List Step) → Run ⟦<U as Means>⟧.meaning k s is xs last → HasNewDatagrams s → SealsSent is xs }
 {}
 
 /// A law, which runs no code. Over a run, while the connection is open, each byte that the session wrote in a space with keys waits to be

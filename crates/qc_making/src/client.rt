@@ -1,6 +1,6 @@
 //! A client's connection is made.
 
-ghost use Rattle.std.specs.Prelude.{◌≡◌, ◌<◌, ◌^◌, None, length, IfOk};
+ghost use Rattle.std.specs.Prelude.{◌≡◌, ◌<◌, ◌^◌, None, length, IfOk, false};
 ghost use Rattle.qc_state.specs.First.{first_view, fixed_of};
 ghost use Rattle.qc_recovery.specs.Paths.{first_size};
 ghost use Rattle.qc_state.specs.View.{ideal};
@@ -59,7 +59,7 @@ pub fn new_client<U: Suite>(
 ) -> Result<Core<U>, AllocError>
     requires fresh { U.Session.is_fresh setup.session }
     requires client { U.Session.side_of setup.session ≡ Side.Client }
-    ensures made { IfOk result (λ core. (ideal U.Random.stream core) ≡ first_view ⟦<U as Means>⟧.meaning setup.session (U.Random.stream setup.random) (fixed_of Side.Client setup.version setup.local_cid setup.first_cid setup.local_ip setup.transport setup.grease_quic_bit (U.Random.stream setup.random)) setup.remote setup.first_cid token setup.transport (U.Control.built setup.control now (first_size setup.transport None)) now) }
+    ensures made { IfOk result (λ core. (ideal U.Random.stream core) ≡ first_view ⟦<U as Means>⟧.meaning setup.session (U.Random.stream setup.random) (fixed_of Side.Client setup.version setup.local_cid setup.first_cid setup.cid_lifetime false setup.local_ip setup.transport setup.grease_quic_bit (U.Random.stream setup.random)) setup.remote setup.first_cid token setup.transport (U.Control.built setup.control now (first_size setup.transport None)) now) }
     ensures hello { IfOk result (λ core. core.waiting.spaces.initial.crypto.written < 2 ^ 62) }
 {
     let mut session = SoundSession::new(setup.session);
@@ -71,6 +71,8 @@ pub fn new_client<U: Suite>(
         version: setup.version,
         local_cid: setup.local_cid,
         first_cid: setup.first_cid,
+        cid_lifetime: setup.cid_lifetime,
+        preferred: false,
         local_ip: setup.local_ip,
         grease_quic_bit: setup.grease_quic_bit,
     };

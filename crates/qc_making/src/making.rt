@@ -1,7 +1,9 @@
 //! What clients and servers are made of.
 
-ghost use Rattle.std.specs.Prelude.{◌≡◌, ◌<◌, ◌^◌, ◌%◌, ◌&&◌, nat_lt, if◌then◌else◌, [], length, IfOk, false, None};
+ghost use Rattle.std.specs.Prelude.{◌≡◌, ◌⊎◌, ◌<◌, ◌^◌, ◌%◌, ◌&&◌, nat_lt, if◌then◌else◌, [], length, IfOk, false, None};
+ghost use Rattle.qc_cids.specs.Cids.{first_ids};
 ghost use Rattle.qc_datagrams.specs.Datagrams.{new_datagrams};
+ghost use Rattle.qc_ids.specs.LocalCids.{first_local_cids};
 ghost use Rattle.qc_path.specs.Acks.{no_marks};
 ghost use Rattle.qc_send_stream.specs.Buffer.{bytes_written, nothing};
 ghost use Rattle.qc_state.specs.Draws.{behind, filter_words, key_phase_of, word};
@@ -13,10 +15,11 @@ ghost use Rattle.qc_state.specs.declared.spaces.Spaces.{Spaces};
 use bytes::Bytes;
 use qc_assembler::Assembler;
 use qc_base::{ConnectionId, Duration, Instant, Side, VarInt};
+use qc_cids::ConnectionIds;
 use qc_core::Core;
 use qc_crypto::Session;
 use qc_datagrams::Datagrams;
-use qc_path::{ControllerFactory, PacketNumberFilter, PendingAcks};
+use qc_path::{Controller, ControllerFactory, PacketNumberFilter, PendingAcks};
 use qc_recovery::{IdleTimeout, Recovery, TransportConfig};
 use qc_state::setup::limit_of_millis;
 use qc_state::{
@@ -68,15 +71,31 @@ pub(crate) struct Given {
     pub local_cid: ConnectionId,
     /// The destination id of a client's first packets.
     pub first_cid: ConnectionId,
+    /// How long an id of this end is used; without a limit where there is none.
+    pub cid_lifetime: Option<Duration>,
+    /// Whether this end announced a preferred address, with a second id.
+    pub preferred: bool,
     /// The address to send from, where one is given.
     pub local_ip: Option<IpAddr>,
     /// Whether this end takes packets whose fixed bit isn't set.
     pub grease_quic_bit: bool,
 }
 
+/// How many ids of this end count as issued at first: the one that it began with, and that of its preferred address, where it announced one.
+fn first_issued(preferred: bool) -> u64
+    ensures value { result ≡ (if preferred then 2 else 1) }
+    ensures few { (result ≡ 1) ⊎ (result ≡ 2) }
+{
+    if preferred {
+        return 2;
+    }
+    1
+}
+
 /// What doesn't change of a connection: it draws how many packets the first 1-RTT keys seal, and whether it spins.
 fn fixed<R: Rng>(given: Given, transport: &TransportConfig, random: &mut R) -> Fixed
-    ensures value { result ≡ fixed_of given.side given.version given.local_cid given.first_cid given.local_ip transport.now given.grease_quic_bit (R.stream random.old) }
+    ensures value { result ≡ fixed_of given.side given.version given.local_cid given.first_cid given.cid_lifetime given.preferred given.local_ip transport.now given.grease_quic_bit (R.stream random.old) }
+    ensures few { (result.issued ≡ 1) ⊎ (result.issued ≡ 2) }
     ensures drawn { R.stream random.new ≡ filter_words transport.now.allow_spin (R.stream random.old) }
 {
     let key_phase_size = key_phase_size(random);
@@ -86,6 +105,8 @@ fn fixed<R: Rng>(given: Given, transport: &TransportConfig, random: &mut R) -> F
         version: given.version,
         local_cid: given.local_cid,
         first_cid: given.first_cid,
+        cid_lifetime: given.cid_lifetime,
+        issued: first_issued(given.preferred),
         local_ip: given.local_ip,
         idle_limit: idle_limit(transport.get_max_idle_timeout()),
         crypto_buffer_size: transport.get_crypto_buffer_size(),
@@ -192,6 +213,28 @@ fn life(alloc: Global) -> Life
     }
 }
 
+/// The id of the peer that packets by these paths carry.
+fn carried<C: Controller>(paths: &Paths<C>) -> ConnectionId
+    ensures { result ≡ paths.now.current.remote_cid }
+{
+    paths.current.remote_cid
+}
+
+/// The connection ids of both ends of a connection that was just made at `now`, which sends to this id of the peer.
+fn first_ids(alloc: Global, fixed: &Fixed, remote: ConnectionId, now: Instant) -> ConnectionIds
+    requires { (fixed.now.issued ≡ 1) ⊎ (fixed.now.issued ≡ 2) }
+    ensures { result ≡ first_ids remote (first_local_cids (length fixed.now.local_cid) fixed.now.cid_lifetime now fixed.now.issued) }
+{
+    ConnectionIds::new(
+        alloc,
+        remote,
+        fixed.local_cid.len(),
+        fixed.cid_lifetime,
+        now,
+        fixed.issued,
+    )
+}
+
 /// A connection that was just made at `now`: it has these keys of the Initial space, nothing waits but what its session wrote,
 /// its Initial packets carry this token, and these are its paths. It draws what doesn't change of it, and then
 /// which number of 1-RTT packets it skips first. Want of memory is the only refusal.
@@ -209,13 +252,15 @@ pub(crate) fn made<U: Suite>(
     now: Instant,
 ) -> Result<Core<U>, AllocError>
     requires { length hello.items < 2 ^ 62 }
-    ensures { IfOk result (λ core. (ideal U.Random.stream core) ≡ just_made keys session hello.items token (U.Random.stream random) (fixed_of given.side given.version given.local_cid given.first_cid given.local_ip transport.now given.grease_quic_bit (U.Random.stream random)) paths transport.now now) }
+    ensures { IfOk result (λ core. (ideal U.Random.stream core) ≡ just_made keys session hello.items token (U.Random.stream random) (fixed_of given.side given.version given.local_cid given.first_cid given.cid_lifetime given.preferred given.local_ip transport.now given.grease_quic_bit (U.Random.stream random)) paths transport.now now) }
 {
     let waiting = waiting(alloc, hello)?;
     let mut random = random;
     let fixed = fixed(given, transport, &mut random);
     let filter = PacketNumberFilter::new(&mut random);
     let streams = first_streams(alloc, fixed.side, transport);
+    let remote = carried(&paths);
+    let ids = first_ids(alloc, &fixed, remote, now);
     Ok(Core {
         numbers: Numbers {
             spaces: Spaces {
@@ -247,6 +292,7 @@ pub(crate) fn made<U: Suite>(
             recovery: Recovery::new(alloc, transport),
             streams,
             datagrams: datagrams(alloc, transport),
+            ids,
         },
     })
 }

@@ -62,7 +62,7 @@ pub fn new_server<U: Suite>(
     now: Instant,
 ) -> Result<Core<U>, AllocError>
     requires fresh { U.Session.is_fresh setup.session }
-    ensures { IfOk result (λ core. (ideal U.Random.stream core) ≡ server_view ⟦<U as Means>⟧.meaning setup.session (U.Random.stream setup.random) (fixed_of Side.Server setup.version setup.local_cid setup.first_cid setup.local_ip setup.transport setup.grease_quic_bit (U.Random.stream setup.random)) setup.remote setup.remote_cid setup.validated setup.transport (U.Control.built setup.control now (first_size setup.transport None)) now) }
+    ensures { IfOk result (λ core. (ideal U.Random.stream core) ≡ server_view ⟦<U as Means>⟧.meaning setup.session (U.Random.stream setup.random) (fixed_of Side.Server setup.version setup.local_cid setup.first_cid setup.cid_lifetime setup.preferred setup.local_ip setup.transport setup.grease_quic_bit (U.Random.stream setup.random)) setup.remote setup.remote_cid setup.validated setup.transport (U.Control.built setup.control now (first_size setup.transport None)) now) }
 {
     let session = SoundSession::new(setup.session);
     let keys = SpaceKeys::new(session.initial_keys(&setup.first_cid, Side::Server));
@@ -71,6 +71,8 @@ pub fn new_server<U: Suite>(
         version: setup.version,
         local_cid: setup.local_cid,
         first_cid: setup.first_cid,
+        cid_lifetime: setup.cid_lifetime,
+        preferred: setup.preferred,
         local_ip: setup.local_ip,
         grease_quic_bit: setup.grease_quic_bit,
     };

@@ -1,4 +1,4 @@
-//! What an endpoint hands over that it read already: a datagram that it cut, and a server's first packet that it opened.
+//! What an endpoint hands over: a datagram that it cut already, ids for the peer to use, and a server's first packet that it opened.
 
 ghost use Rattle.std.specs.Prelude.{◌≡◌, ◌<◌, ◌+◌, None, length, if◌then◌else◌, OnOk, IfOk, IfSome};
 ghost use Rattle.qc_base.specs.Time.{plus};
@@ -13,7 +13,7 @@ use qc_admit::received;
 use qc_base::{ConnectionId, EcnCodepoint, Instant, SpaceId};
 use qc_core::Core;
 use qc_header::{InitialHeader, InitialPacket, PartialDecode};
-use qc_state::{Coming, ConnectionError, Dids, Means, Suite};
+use qc_state::{Coming, ConnectionError, Dids, IdList, Means, Suite};
 use std::alloc::{AllocError, Global};
 use std::net::SocketAddr;
 
@@ -33,6 +33,14 @@ pub enum ConnectionEvent {
         first_decode: PartialDecode,
         /// What is behind that: None where nothing is, so never no bytes.
         remaining: Option<BytesMut>,
+    },
+    /// Ids of this end that the peer may use (RFC 9000, 5.1.1): no more than are asked for, with the next sequence numbers, and as long as
+    /// this end's.
+    NewIdentifiers {
+        /// The ids, in the order of their numbers.
+        ids: IdList,
+        /// When they are given.
+        now: Instant,
     },
 }
 

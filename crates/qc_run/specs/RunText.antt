@@ -137,19 +137,19 @@ pub record IsRunText {t : Types} (m : Meaning t) (first : View t) (inputs : List
 abbrev pub Sessions : Type 1
 Sessions = SessionGhosts ToySession ToyHeaderKey ToyPacketKey (Unit {0}) (Unit {0})
 
--- the client that a script sets up: QUIC version 1, and no address to send from. s, h, p and c are what its session, its keys and
--- its congestion controller mean
+-- the client that a script sets up: QUIC version 1, ids that don't grow old, and no address to send from. s, h, p and c are what its
+-- session, its keys and its congestion controller mean
 abbrev pub script_client : Sessions → HeaderMaskGhosts ToyHeaderKey → PacketKeyGhosts ToyPacketKey → ControllerGhosts Reno → Settings → SocketAddr → View toy
 script_client s h p c set remote =
     first_view (meaning s h p c) (client_session set) (words_named set.random)
-    (fixed_of Client 1 (local_of set) (remote_of set) None (transport_of set.idle) true (words_named set.random))
+    (fixed_of Client 1 (local_of set) (remote_of set) None false None (transport_of set.idle) true (words_named set.random))
     remote (remote_of set) (token_of set) (transport_of set.idle) (control_of (transport_of set.idle)) (start_of set)
 
--- so the server, whose client's address isn't validated
+-- so the server, which announces no preferred address, and whose client's address isn't validated
 abbrev pub script_server : Sessions → HeaderMaskGhosts ToyHeaderKey → PacketKeyGhosts ToyPacketKey → ControllerGhosts Reno → Settings → SocketAddr → View toy
 script_server s h p c set remote =
     server_view (meaning s h p c) (server_session set) (words_named set.random)
-    (fixed_of Server 1 (local_of set) (first_of set) None (transport_of set.idle) true (words_named set.random))
+    (fixed_of Server 1 (local_of set) (first_of set) None false None (transport_of set.idle) true (words_named set.random))
     remote (remote_of set) false (transport_of set.idle) (control_of (transport_of set.idle)) (start_of set)
 
 -- the end of this side

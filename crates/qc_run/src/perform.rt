@@ -173,6 +173,7 @@ fn client_setup(alloc: Global, set: &Settings) -> Result<ClientSetup<Toy>, Alloc
     ensures random { IfOk result (λ setup. words_of setup.random ≡ words_named set.now.random) }
     ensures version { IfOk result (λ setup. setup.version ≡ 1) }
     ensures local_cid { IfOk result (λ setup. setup.local_cid ≡ local_of set.now) }
+    ensures lifetime { IfOk result (λ setup. setup.cid_lifetime ≡ None) }
     ensures local_ip { IfOk result (λ setup. setup.local_ip ≡ None) }
     ensures first_cid { IfOk result (λ setup. setup.first_cid ≡ remote_of set.now) }
     ensures transport { IfOk result (λ setup. setup.transport ≡ transport_of set.now.idle) }
@@ -209,6 +210,8 @@ fn server_setup(alloc: Global, set: &Settings) -> Result<ServerSetup<Toy>, Alloc
     ensures random { IfOk result (λ setup. words_of setup.random ≡ words_named set.now.random) }
     ensures version { IfOk result (λ setup. setup.version ≡ 1) }
     ensures local_cid { IfOk result (λ setup. setup.local_cid ≡ local_of set.now) }
+    ensures lifetime { IfOk result (λ setup. setup.cid_lifetime ≡ None) }
+    ensures preferred { IfOk result (λ setup. setup.preferred ≡ false) }
     ensures local_ip { IfOk result (λ setup. setup.local_ip ≡ None) }
     ensures first_cid { IfOk result (λ setup. setup.first_cid ≡ first_of set.now) }
     ensures remote_cid { IfOk result (λ setup. setup.remote_cid ≡ remote_of set.now) }

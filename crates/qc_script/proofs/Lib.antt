@@ -1,4 +1,5 @@
 pub mod FieldLemmas
+pub mod IdLemmas
 pub mod ItemLemmas
 pub mod LineLemmas
 pub mod NumberLemmas

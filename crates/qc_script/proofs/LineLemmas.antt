@@ -1,16 +1,18 @@
 -- The line of an input: its word, its fields, and that no other input has it.
-use Rattle.std.proofs.Common.{◌≡◌, ◌≢◌, ℕ, ◌+◌, ◌^◌, ◌<◌, List, [], ◌∷◌, ◌++◌, drop, get_or, Option, Some, None, Result, Ok, Err, IfOk, refl, sym, ◌∙◌, ap, arith, codes}
+use Rattle.std.proofs.Common.{◌≡◌, ◌≢◌, ℕ, ◌+◌, ◌^◌, ◌<◌, ◌==◌, if◌then◌else◌, List, [], ◌∷◌, ◌++◌, drop, get_or, Option, Some, None, Result, Ok, Err, IfOk, refl, sym, ◌∙◌, ap, arith, codes}
 use Rattle.std.proofs.lemmas.List.{append_assoc, append_cancel_left, append_cancel_right}
 use Rattle.std.specs.Fmt.{decimal}
 use Rattle.std.proofs.lemmas.Fmt.{decimal_injective}
 use Rattle.std.specs.declared.net.socket_addr.SocketAddr.{SocketAddr}
 use Rattle.qc_base.specs.Grammar.{IsBytes}
 use Rattle.qc_base.specs.declared.ecn.EcnCodepoint.{EcnCodepoint}
+use Rattle.qc_base.specs.declared.ids.IssuedCid.{IssuedCid}
 use Rattle.qc_base.specs.declared.side.Dir.{Dir}
 use Rattle.qc_state.specs.declared.input.Input.{Input}
-use Rattle.qc_state.specs.declared.input.Input.TheVariants.{Datagram, Timeout, Transmit, Open, Accept, Write, Finish, ResetSend, StopRecv, Read, SendDatagram, RecvDatagram, Close, Ping, MaxStreams, SendWindow, ReceiveWindow}
+use Rattle.qc_state.specs.declared.input.Input.TheVariants.{Datagram, Timeout, Transmit, Open, Accept, Write, Finish, ResetSend, StopRecv, Read, SendDatagram, RecvDatagram, Close, Ping, Identifiers, MaxStreams, SendWindow, ReceiveWindow}
 use Rattle.qc_script.specs.Fields.{hex_field, address_text, dir_text, ecn_text, IsAddress, AreFields, Begins}
-use Rattle.qc_script.specs.Script.{input_line, IsWithin, IsNext, IsLineRead, IsOfStreams, IsCallRead}
+use Rattle.qc_script.specs.Script.{ids_text, input_line, AreIssued, IsWithin, IsNext, IsLineRead, IsOfStreams, IsCallRead}
+use Rattle.qc_script.proofs.IdLemmas.{ids_front, ids_injective}
 use Rattle.qc_script.proofs.NumberLemmas.{Lacks-decimal}
 use Rattle.qc_script.proofs.FieldLemmas.{hex_field_injective, Lacks-address, address_injective, Lacks-mark, mark_injective, dir_injective, dir_split, begins_same, fields_same}
 
@@ -32,6 +34,7 @@ word_of (SendDatagram now body) = codes "send"
 word_of (RecvDatagram now) = codes "recv"
 word_of (Close now code reason) = codes "close"
 word_of (Ping now) = codes "ping"
+word_of (Identifiers now ids) = codes "ids"
 word_of (MaxStreams now dir count) = codes "streams"
 word_of (SendWindow now size) = codes "sendwindow"
 word_of (ReceiveWindow now size) = codes "recvwindow"
@@ -52,6 +55,7 @@ fields_of (SendDatagram now body) = decimal now ++ 32 ∷ hex_field body
 fields_of (RecvDatagram now) = decimal now
 fields_of (Close now code reason) = decimal now ++ 32 ∷ (decimal code ++ 32 ∷ hex_field reason)
 fields_of (Ping now) = decimal now
+fields_of (Identifiers now ids) = decimal now ++ ids_text ids
 fields_of (MaxStreams now dir count) = decimal now ++ 32 ∷ (dir_text dir ++ 32 ∷ decimal count)
 fields_of (SendWindow now size) = decimal now ++ 32 ∷ decimal size
 fields_of (ReceiveWindow now size) = decimal now ++ 32 ∷ decimal size
@@ -73,13 +77,15 @@ line_parts (SendDatagram now body) = simp append_assoc
 line_parts (RecvDatagram now) = simp append_assoc
 line_parts (Close now code reason) = simp append_assoc
 line_parts (Ping now) = simp append_assoc
+line_parts (Identifiers now ids) = simp append_assoc
 line_parts (MaxStreams now dir count) = simp append_assoc
 line_parts (SendWindow now size) = simp append_assoc
 line_parts (ReceiveWindow now size) = simp append_assoc
 
--- the sum of the first, the third and the fifth letter of an input's line, by which its word is told from the other ones
+-- the sum of the first, the third and the fifth letter of an input's line, by which its word is told from the other ones; the one
+-- word of three letters has no fifth one
 abbrev letters_of : List ℕ → ℕ
-letters_of line = get_or line 0 0 + get_or line 2 0 + get_or line 4 0
+letters_of line = get_or line 0 0 + get_or line 2 0 + (if get_or line 3 0 == 32 then 0 else get_or line 4 0)
 
 abbrev letters : Input → ℕ
 letters (Datagram now remote ecn bytes) = 319
@@ -96,6 +102,7 @@ letters (SendDatagram now body) = 257
 letters (RecvDatagram now) = 245
 letters (Close now code reason) = 311
 letters (Ping now) = 254
+letters (Identifiers now ids) = 220
 letters (MaxStreams now dir count) = 326
 letters (SendWindow now size) = 344
 letters (ReceiveWindow now size) = 332
@@ -116,30 +123,32 @@ line_letters (SendDatagram now body) = refl
 line_letters (RecvDatagram now) = refl
 line_letters (Close now code reason) = refl
 line_letters (Ping now) = refl
+line_letters (Identifiers now ids) = refl
 line_letters (MaxStreams now dir count) = refl
 line_letters (SendWindow now size) = refl
 line_letters (ReceiveWindow now size) = refl
 
--- no word has three letters, with a space behind them
-pub no_space : (i : Input) → get_or (input_line i) 3 0 ≢ 32
+-- no word is `set`, with a space behind it: the sums of the first and the fourth letter differ
+pub no_set : (i : Input) → get_or (input_line i) 0 0 + get_or (input_line i) 3 0 ≢ 147
 unfolding input_line
-no_space (Datagram now remote ecn bytes) e = omega (arith, e)
-no_space (Timeout now) e = omega (arith, e)
-no_space (Transmit now count) e = omega (arith, e)
-no_space (Open now dir) e = omega (arith, e)
-no_space (Accept now dir) e = omega (arith, e)
-no_space (Write now id body) e = omega (arith, e)
-no_space (Finish now id) e = omega (arith, e)
-no_space (ResetSend now id code) e = omega (arith, e)
-no_space (StopRecv now id code) e = omega (arith, e)
-no_space (Read now id max) e = omega (arith, e)
-no_space (SendDatagram now body) e = omega (arith, e)
-no_space (RecvDatagram now) e = omega (arith, e)
-no_space (Close now code reason) e = omega (arith, e)
-no_space (Ping now) e = omega (arith, e)
-no_space (MaxStreams now dir count) e = omega (arith, e)
-no_space (SendWindow now size) e = omega (arith, e)
-no_space (ReceiveWindow now size) e = omega (arith, e)
+no_set (Datagram now remote ecn bytes) e = omega (arith, e)
+no_set (Timeout now) e = omega (arith, e)
+no_set (Transmit now count) e = omega (arith, e)
+no_set (Open now dir) e = omega (arith, e)
+no_set (Accept now dir) e = omega (arith, e)
+no_set (Write now id body) e = omega (arith, e)
+no_set (Finish now id) e = omega (arith, e)
+no_set (ResetSend now id code) e = omega (arith, e)
+no_set (StopRecv now id code) e = omega (arith, e)
+no_set (Read now id max) e = omega (arith, e)
+no_set (SendDatagram now body) e = omega (arith, e)
+no_set (RecvDatagram now) e = omega (arith, e)
+no_set (Close now code reason) e = omega (arith, e)
+no_set (Ping now) e = omega (arith, e)
+no_set (Identifiers now ids) e = omega (arith, e)
+no_set (MaxStreams now dir count) e = omega (arith, e)
+no_set (SendWindow now size) e = omega (arith, e)
+no_set (ReceiveWindow now size) e = omega (arith, e)
 
 -- a text that is an input's line without LF
 next_text : (text : List ℕ) (i : Input) → IsNext text i → text ≡ word_of i ++ 32 ∷ fields_of i
@@ -218,6 +227,13 @@ pub no_ping : (digits : List ℕ) → ((now : ℕ) → now < 2 ^ 64 → digits �
 no_ping digits none (Ping now) h = none now h.within (next_fields (codes "ping") digits (Ping now) refl h)
 no_ping digits none i h = let e : 254 ≡ letters i = text_letters (codes "ping " ++ digits) i h in omega (arith, e)
 
+pub no_ids : (fields : List ℕ) → ((now : ℕ) (rest : List ℕ) → Begins (2 ^ 64) fields now rest → (ids : List IssuedCid) → AreIssued ids → 32 ∷ rest ≢ ids_text ids) → (i : Input) → IsNext (codes "ids " ++ fields) i → ⊥
+no_ids fields none (Identifiers now ids) h =
+    let front = ids_front ids h.within.1 in
+    let spelled = next_fields (codes "ids") fields (Identifiers now ids) refl h ∙ ap (λ (z : List ℕ). decimal now ++ z) front.1 in
+    none now front.0 (record { spelled = spelled; small = h.within.0 }) ids h.within.2 (sym front.1)
+no_ids fields none i h = let e : 220 ≡ letters i = text_letters (codes "ids " ++ fields) i h in omega (arith, e)
+
 pub no_streams : (fields : List ℕ) → ((now : ℕ) (rest : List ℕ) → Begins (2 ^ 64) fields now rest → (dir : Dir) (more : List ℕ) → rest ≡ dir_text dir ++ 32 ∷ more → (count : ℕ) → count < 2 ^ 62 → more ≢ decimal count) → (i : Input) → IsNext (codes "streams " ++ fields) i → ⊥
 no_streams fields none (MaxStreams now dir count) h = none now _ (record { spelled = next_fields (codes "streams") fields (MaxStreams now dir count) refl h; small = h.within.0 }) dir _ refl count h.within.1 refl
 no_streams fields none i h = let e : 326 ≡ letters i = text_letters (codes "streams " ++ fields) i h in omega (arith, e)
@@ -246,31 +262,32 @@ no_call text opens accepts writes finishes resets stops reads streams sendwindow
 no_call text opens accepts writes finishes resets stops reads streams sendwindows recvwindows _ of h = absurd of
 
 -- and what is no such call, with none of the other words either, is the line of no input
-no_word : (text : List ℕ) → ((rest : List ℕ) → text ≢ codes "datagram " ++ rest) → ((rest : List ℕ) → text ≢ codes "timeout " ++ rest) → ((rest : List ℕ) → text ≢ codes "transmit " ++ rest) → ((rest : List ℕ) → text ≢ codes "send " ++ rest) → ((rest : List ℕ) → text ≢ codes "recv " ++ rest) → ((rest : List ℕ) → text ≢ codes "close " ++ rest) → ((rest : List ℕ) → text ≢ codes "ping " ++ rest) → ((i : Input) → IsOfStreams i → IsNext text i → ⊥)
+no_word : (text : List ℕ) → ((rest : List ℕ) → text ≢ codes "datagram " ++ rest) → ((rest : List ℕ) → text ≢ codes "timeout " ++ rest) → ((rest : List ℕ) → text ≢ codes "transmit " ++ rest) → ((rest : List ℕ) → text ≢ codes "send " ++ rest) → ((rest : List ℕ) → text ≢ codes "recv " ++ rest) → ((rest : List ℕ) → text ≢ codes "close " ++ rest) → ((rest : List ℕ) → text ≢ codes "ping " ++ rest) → ((rest : List ℕ) → text ≢ codes "ids " ++ rest) → ((i : Input) → IsOfStreams i → IsNext text i → ⊥)
     → (i : Input) → IsNext text i → ⊥
-no_word text datagrams timeouts transmits sends recvs closes pings calls (Datagram now remote ecn bytes) h = datagrams _ (next_text text (Datagram now remote ecn bytes) h)
-no_word text datagrams timeouts transmits sends recvs closes pings calls (Timeout now) h = timeouts _ (next_text text (Timeout now) h)
-no_word text datagrams timeouts transmits sends recvs closes pings calls (Transmit now count) h = transmits _ (next_text text (Transmit now count) h)
-no_word text datagrams timeouts transmits sends recvs closes pings calls (SendDatagram now body) h = sends _ (next_text text (SendDatagram now body) h)
-no_word text datagrams timeouts transmits sends recvs closes pings calls (RecvDatagram now) h = recvs _ (next_text text (RecvDatagram now) h)
-no_word text datagrams timeouts transmits sends recvs closes pings calls (Close now code reason) h = closes _ (next_text text (Close now code reason) h)
-no_word text datagrams timeouts transmits sends recvs closes pings calls (Ping now) h = pings _ (next_text text (Ping now) h)
-no_word text datagrams timeouts transmits sends recvs closes pings calls (Open now dir) h = calls (Open now dir) tt h
-no_word text datagrams timeouts transmits sends recvs closes pings calls (Accept now dir) h = calls (Accept now dir) tt h
-no_word text datagrams timeouts transmits sends recvs closes pings calls (Write now id body) h = calls (Write now id body) tt h
-no_word text datagrams timeouts transmits sends recvs closes pings calls (Finish now id) h = calls (Finish now id) tt h
-no_word text datagrams timeouts transmits sends recvs closes pings calls (ResetSend now id code) h = calls (ResetSend now id code) tt h
-no_word text datagrams timeouts transmits sends recvs closes pings calls (StopRecv now id code) h = calls (StopRecv now id code) tt h
-no_word text datagrams timeouts transmits sends recvs closes pings calls (Read now id max) h = calls (Read now id max) tt h
-no_word text datagrams timeouts transmits sends recvs closes pings calls (MaxStreams now dir count) h = calls (MaxStreams now dir count) tt h
-no_word text datagrams timeouts transmits sends recvs closes pings calls (SendWindow now size) h = calls (SendWindow now size) tt h
-no_word text datagrams timeouts transmits sends recvs closes pings calls (ReceiveWindow now size) h = calls (ReceiveWindow now size) tt h
+no_word text datagrams timeouts transmits sends recvs closes pings ids calls (Datagram now remote ecn bytes) h = datagrams _ (next_text text (Datagram now remote ecn bytes) h)
+no_word text datagrams timeouts transmits sends recvs closes pings ids calls (Timeout now) h = timeouts _ (next_text text (Timeout now) h)
+no_word text datagrams timeouts transmits sends recvs closes pings ids calls (Transmit now count) h = transmits _ (next_text text (Transmit now count) h)
+no_word text datagrams timeouts transmits sends recvs closes pings ids calls (SendDatagram now body) h = sends _ (next_text text (SendDatagram now body) h)
+no_word text datagrams timeouts transmits sends recvs closes pings ids calls (RecvDatagram now) h = recvs _ (next_text text (RecvDatagram now) h)
+no_word text datagrams timeouts transmits sends recvs closes pings ids calls (Close now code reason) h = closes _ (next_text text (Close now code reason) h)
+no_word text datagrams timeouts transmits sends recvs closes pings ids calls (Ping now) h = pings _ (next_text text (Ping now) h)
+no_word text datagrams timeouts transmits sends recvs closes pings ids calls (Identifiers now given) h = ids _ (next_text text (Identifiers now given) h)
+no_word text datagrams timeouts transmits sends recvs closes pings ids calls (Open now dir) h = calls (Open now dir) tt h
+no_word text datagrams timeouts transmits sends recvs closes pings ids calls (Accept now dir) h = calls (Accept now dir) tt h
+no_word text datagrams timeouts transmits sends recvs closes pings ids calls (Write now id body) h = calls (Write now id body) tt h
+no_word text datagrams timeouts transmits sends recvs closes pings ids calls (Finish now id) h = calls (Finish now id) tt h
+no_word text datagrams timeouts transmits sends recvs closes pings ids calls (ResetSend now id code) h = calls (ResetSend now id code) tt h
+no_word text datagrams timeouts transmits sends recvs closes pings ids calls (StopRecv now id code) h = calls (StopRecv now id code) tt h
+no_word text datagrams timeouts transmits sends recvs closes pings ids calls (Read now id max) h = calls (Read now id max) tt h
+no_word text datagrams timeouts transmits sends recvs closes pings ids calls (MaxStreams now dir count) h = calls (MaxStreams now dir count) tt h
+no_word text datagrams timeouts transmits sends recvs closes pings ids calls (SendWindow now size) h = calls (SendWindow now size) tt h
+no_word text datagrams timeouts transmits sends recvs closes pings ids calls (ReceiveWindow now size) h = calls (ReceiveWindow now size) tt h
 
 -- what a reader of such calls found is what a reader of all inputs finds, where none of the other words stands in front
-pub call_read : {E : Type 0} (text : List ℕ) → ((rest : List ℕ) → text ≢ codes "datagram " ++ rest) → ((rest : List ℕ) → text ≢ codes "timeout " ++ rest) → ((rest : List ℕ) → text ≢ codes "transmit " ++ rest) → ((rest : List ℕ) → text ≢ codes "send " ++ rest) → ((rest : List ℕ) → text ≢ codes "recv " ++ rest) → ((rest : List ℕ) → text ≢ codes "close " ++ rest) → ((rest : List ℕ) → text ≢ codes "ping " ++ rest) → (r : Result (Option Input) E) → IfOk r (IsCallRead text) → IfOk r (IsLineRead text)
-call_read text datagrams timeouts transmits sends recvs closes pings (Ok None) h = no_word text datagrams timeouts transmits sends recvs closes pings h
-call_read text datagrams timeouts transmits sends recvs closes pings (Ok (Some i)) h = h
-call_read text datagrams timeouts transmits sends recvs closes pings (Err e) h = tt
+pub call_read : {E : Type 0} (text : List ℕ) → ((rest : List ℕ) → text ≢ codes "datagram " ++ rest) → ((rest : List ℕ) → text ≢ codes "timeout " ++ rest) → ((rest : List ℕ) → text ≢ codes "transmit " ++ rest) → ((rest : List ℕ) → text ≢ codes "send " ++ rest) → ((rest : List ℕ) → text ≢ codes "recv " ++ rest) → ((rest : List ℕ) → text ≢ codes "close " ++ rest) → ((rest : List ℕ) → text ≢ codes "ping " ++ rest) → ((rest : List ℕ) → text ≢ codes "ids " ++ rest) → (r : Result (Option Input) E) → IfOk r (IsCallRead text) → IfOk r (IsLineRead text)
+call_read text datagrams timeouts transmits sends recvs closes pings ids (Ok None) h = no_word text datagrams timeouts transmits sends recvs closes pings ids h
+call_read text datagrams timeouts transmits sends recvs closes pings ids (Ok (Some i)) h = h
+call_read text datagrams timeouts transmits sends recvs closes pings ids (Err e) h = tt
 
 -- what a reader of all inputs found is what one of such calls finds
 pub read_call : (text : List ℕ) (r : Option Input) → IsLineRead text r → IsCallRead text r
@@ -445,6 +462,15 @@ recvwindow_injective now now' size size' h k e =
     let last = code_injective size size' h.1 k.1 first.1 in
     cc
 
+identifiers_injective : (now now' : ℕ) (ids ids' : List IssuedCid) → IsWithin (Identifiers now ids) → IsWithin (Identifiers now' ids') → fields_of (Identifiers now ids) ≡ fields_of (Identifiers now' ids') → Identifiers now ids ≡ Identifiers now' ids'
+identifiers_injective now now' ids ids' h k e =
+    let front = ids_front ids h.1 in
+    let front' = ids_front ids' k.1 in
+    let first = number_split now now' front.0 front'.0 h.0 k.0 (sym (ap (λ (z : List ℕ). decimal now ++ z) front.1) ∙ e ∙ ap (λ (z : List ℕ). decimal now' ++ z) front'.1) in
+    let times = first.0 in
+    let last = ids_injective ids ids' h.2 k.2 (front.1 ∙ ap (λ (z : List ℕ). 32 ∷ z) first.1 ∙ sym front'.1) in
+    cc
+
 -- an input's line is that of no other input
 pub input_line_injective : (i j : Input) → IsWithin i → IsWithin j → input_line i ≡ input_line j → i ≡ j
 input_line_injective (Datagram now remote ecn bytes) (Datagram now' remote' ecn' bytes') h k e = datagram_injective now now' remote remote' ecn ecn' bytes bytes' h k (one_fields (Datagram now remote ecn bytes) (Datagram now' remote' ecn' bytes') refl e)
@@ -461,6 +487,7 @@ input_line_injective (SendDatagram now body) (SendDatagram now' body') h k e = s
 input_line_injective (RecvDatagram now) (RecvDatagram now') h k e = ap RecvDatagram (decimal_injective now now' h k (one_fields (RecvDatagram now) (RecvDatagram now') refl e))
 input_line_injective (Close now code reason) (Close now' code' reason') h k e = close_injective now now' code code' reason reason' h k (one_fields (Close now code reason) (Close now' code' reason') refl e)
 input_line_injective (Ping now) (Ping now') h k e = ap Ping (decimal_injective now now' h k (one_fields (Ping now) (Ping now') refl e))
+input_line_injective (Identifiers now ids) (Identifiers now' ids') h k e = identifiers_injective now now' ids ids' h k (one_fields (Identifiers now ids) (Identifiers now' ids') refl e)
 input_line_injective (MaxStreams now dir count) (MaxStreams now' dir' count') h k e = streams_injective now now' dir dir' count count' h k (one_fields (MaxStreams now dir count) (MaxStreams now' dir' count') refl e)
 input_line_injective (SendWindow now size) (SendWindow now' size') h k e = sendwindow_injective now now' size size' h k (one_fields (SendWindow now size) (SendWindow now' size') refl e)
 input_line_injective (ReceiveWindow now size) (ReceiveWindow now' size') h k e = recvwindow_injective now now' size size' h k (one_fields (ReceiveWindow now size) (ReceiveWindow now' size') refl e)

@@ -18,7 +18,7 @@ use Rattle.qc_script.specs.Fields.{hex_field, address_text, IsAddress}
 use Rattle.qc_script.specs.Script.{random_text, side_line, input_line, IsRandom, IsSeed, IsId, IsRemote, IsFirst, IsToken, IsSecret}
 use Rattle.qc_script.specs.Items.{setting_line, IsSetting, IsNextSetting}
 use Rattle.qc_script.proofs.FieldLemmas.{hex_field_injective, address_injective}
-use Rattle.qc_script.proofs.LineLemmas.{no_space}
+use Rattle.qc_script.proofs.LineLemmas.{no_set}
 
 -- ---- words and fields
 
@@ -276,8 +276,8 @@ setting_line_injective side (LimitFailures n) (LimitFailures n') h k e = ap Limi
 setting_line_injective side (Idle n) (Idle n') h k e = ap Idle (decimal_injective n n' (omega (arith, h)) (omega (arith, k)) (fields_same_behind (codes "set idle ") (decimal n) (decimal n') e))
 setting_line_injective side x y h k e = absurd (omega (arith, kinds x y e))
 
--- nor is it an input's: its word has three letters, and a space behind them
-setting_word : (x : Setting) → get_or (setting_line x) 3 0 ≡ 32
+-- nor is it an input's: its word is `set`, with a space behind it
+setting_word : (x : Setting) → get_or (setting_line x) 0 0 + get_or (setting_line x) 3 0 ≡ 147
 unfolding setting_line
 setting_word (Random words) = refl
 setting_word (Time now) = refl
@@ -293,7 +293,7 @@ setting_word (LimitFailures packets) = refl
 setting_word (Idle limit) = refl
 
 pub setting_no_input : (x : Setting) (i : Input) → setting_line x ≢ input_line i
-setting_no_input x i e = no_space i (ap (λ (z : List ℕ). get_or z 3 0) (sym e) ∙ setting_word x)
+setting_no_input x i e = no_set i (ap (λ (z : List ℕ). get_or z 0 0 + get_or z 3 0) (sym e) ∙ setting_word x)
 
 -- a setting's line is a text, and LF
 pub setting_ends : (x : Setting) → (text : List ℕ) × (setting_line x ≡ text ++ 10 ∷ [])

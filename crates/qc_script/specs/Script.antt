@@ -31,6 +31,8 @@
 --     recv T            it takes the oldest datagram that came
 --     close T C H       the application closes at time T, with the code C and the reason H
 --     ping T            a ping at time T
+--     ids T I ..        the endpoint gives ids that the peer may use for this end, one or more, each I as S:H:K: its sequence number S,
+--                       the id H, and the token K of 16 bytes for a stateless reset
 --     streams T D N     the application sets that the peer may have N streams of direction D open at a time
 --     sendwindow T N    it sets that N bytes may be kept until they are acknowledged
 --     recvwindow T N    it sets that N bytes may be underway or unread
@@ -41,10 +43,11 @@
 use Rattle.std.specs.Prelude.{◌≡◌, ℕ, ◌+◌, ◌-◌, ◌^◌, ◌<◌, ◌≤◌, List, [], ◌∷◌, ◌++◌, length, take, map, codes, Bool, true, false, ◌==◌, Option, Some, None, IfSome}
 use Rattle.std.specs.Fmt.{decimal}
 use Rattle.qc_base.specs.Grammar.{IsBytes}
+use Rattle.qc_base.specs.declared.ids.IssuedCid.{IssuedCid}
 use Rattle.qc_base.specs.declared.side.Side.{Side}
 use Rattle.qc_base.specs.declared.side.Side.TheVariants.{Client, Server}
 use Rattle.qc_state.specs.declared.input.Input.{Input}
-use Rattle.qc_state.specs.declared.input.Input.TheVariants.{Datagram, Timeout, Transmit, Open, Accept, Write, Finish, ResetSend, StopRecv, Read, SendDatagram, RecvDatagram, Close, Ping, MaxStreams, SendWindow, ReceiveWindow}
+use Rattle.qc_state.specs.declared.input.Input.TheVariants.{Datagram, Timeout, Transmit, Open, Accept, Write, Finish, ResetSend, StopRecv, Read, SendDatagram, RecvDatagram, Close, Ping, Identifiers, MaxStreams, SendWindow, ReceiveWindow}
 use Rattle.qc_script.specs.declared.settings.RandomWords.{RandomWords}
 use Rattle.qc_script.specs.declared.settings.RandomWords.TheVariants.{Zeros, Seed}
 use Rattle.qc_script.specs.declared.settings.Settings.{Settings}
@@ -146,9 +149,33 @@ pub record AreSettings (s : Settings) : Type 0 where
   pub limit_failures : IfSome s.limit_failures (λ n. n < 2 ^ 64)
   pub idle : IfSome s.idle (λ n. n < 2 ^ 62)
 
+-- an id that an endpoint gives: its sequence number, its bytes and its token for a stateless reset
+unfoldable pub issued_text : IssuedCid → List ℕ
+issued_text issued = decimal issued.sequence ++ 58 ∷ (hex_field issued.id ++ 58 ∷ hex_field issued.reset_token)
+
+-- ids, with a space in front of each
+abbrev pub ids_text : List IssuedCid → List ℕ
+ids_text [] = []
+ids_text (issued ∷ ids) = 32 ∷ (issued_text issued ++ ids_text ids)
+
+-- a token for a stateless reset has 16 bytes (RFC 9000, section 10.3)
+abbrev pub IsResetToken : List ℕ → Type 0
+IsResetToken token = IsBytes token × (length token ≡ 16)
+
+-- the number of an id that is given is below 2^64, and it and its token are such bytes
+pub record IsIssued (issued : IssuedCid) : Type 0 where
+  pub sequence : issued.sequence < 2 ^ 64
+  pub id : IsId issued.id
+  pub reset_token : IsResetToken issued.reset_token
+
+-- so is each of these ids
+abbrev pub AreIssued : List IssuedCid → Type 0
+AreIssued [] = Unit {0}
+AreIssued (issued ∷ ids) = IsIssued issued × AreIssued ids
+
 -- the line of an input: its word, its time, for a datagram where it came from, its mark and its bytes, for a transmit how
--- many datagrams it may send, for a close its code and its reason, for a call of the streams which one it is of, of which
--- direction, or how many, and what is written or sent
+-- many datagrams it may send, for a close its code and its reason, the ids that are given, for a call of the streams which one
+-- it is of, of which direction, or how many, and what is written or sent
 unfoldable pub input_line : Input → List ℕ
 input_line (Datagram now remote ecn bytes) = codes "datagram " ++ (decimal now ++ 32 ∷ (address_text remote ++ 32 ∷ (ecn_text ecn ++ 32 ∷ (hex_field bytes ++ 10 ∷ []))))
 input_line (Timeout now) = codes "timeout " ++ (decimal now ++ 10 ∷ [])
@@ -164,12 +191,13 @@ input_line (SendDatagram now body) = codes "send " ++ (decimal now ++ 32 ∷ (he
 input_line (RecvDatagram now) = codes "recv " ++ (decimal now ++ 10 ∷ [])
 input_line (Close now code reason) = codes "close " ++ (decimal now ++ 32 ∷ (decimal code ++ 32 ∷ (hex_field reason ++ 10 ∷ [])))
 input_line (Ping now) = codes "ping " ++ (decimal now ++ 10 ∷ [])
+input_line (Identifiers now ids) = codes "ids " ++ (decimal now ++ (ids_text ids ++ 10 ∷ []))
 input_line (MaxStreams now dir count) = codes "streams " ++ (decimal now ++ 32 ∷ (dir_text dir ++ 32 ∷ (decimal count ++ 10 ∷ [])))
 input_line (SendWindow now size) = codes "sendwindow " ++ (decimal now ++ 32 ∷ (decimal size ++ 10 ∷ []))
 input_line (ReceiveWindow now size) = codes "recvwindow " ++ (decimal now ++ 32 ∷ (decimal size ++ 10 ∷ []))
 
 -- the input's numbers are below 2^64; a code, a stream's id, a count of streams and a receive window are below 2^62; a datagram,
--- what is written or sent and a reason are bytes; and an address has neither a flow label nor a scope
+-- what is written or sent and a reason are bytes; at least one id is given; and an address has neither a flow label nor a scope
 abbrev pub IsWithin : Input → Type 0
 IsWithin (Datagram now remote ecn bytes) = (now < 2 ^ 64) × IsAddress remote × IsBytes bytes
 IsWithin (Timeout now) = now < 2 ^ 64
@@ -185,6 +213,7 @@ IsWithin (SendDatagram now body) = (now < 2 ^ 64) × IsBytes body
 IsWithin (RecvDatagram now) = now < 2 ^ 64
 IsWithin (Close now code reason) = (now < 2 ^ 64) × (code < 2 ^ 62) × IsBytes reason
 IsWithin (Ping now) = now < 2 ^ 64
+IsWithin (Identifiers now ids) = (now < 2 ^ 64) × (0 < length ids) × AreIssued ids
 IsWithin (MaxStreams now dir count) = (now < 2 ^ 64) × (count < 2 ^ 62)
 IsWithin (SendWindow now size) = (now < 2 ^ 64) × (size < 2 ^ 64)
 IsWithin (ReceiveWindow now size) = (now < 2 ^ 64) × (size < 2 ^ 62)

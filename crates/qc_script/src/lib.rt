@@ -8,16 +8,19 @@
 //! Only a client has a token (RFC 9000, section 8.1). A secret has 5 bytes. A key of the Initial or the Handshake packets may seal as many
 //! packets as its limit says, and as many packets may fail to open as `limit_failures` says (RFC 9001, section 6.6). A
 //! limit on idle time is in milliseconds and below 2^62 (RFC 9000, section 10.1). Then come the input lines
-//! `datagram T A E HEX`, `timeout T`, `transmit T N`, `close T CODE HEX` and `ping T`.
+//! `datagram T A E HEX`, `timeout T`, `transmit T N`, `open T D`, `accept T D`, `write T ID HEX`, `finish T ID`,
+//! `reset T ID CODE`, `stop T ID CODE`, `read T ID N`, `send T HEX`, `recv T`, `close T CODE HEX`, `ping T`,
+//! `ids T SEQ:ID:TOKEN` (with one or more ids), `streams T D N`, `sendwindow T N` and `recvwindow T N`. D is `bi` or `uni`.
 //!
-//! Numbers are decimal, below 2^64, without leading zeros; a code is below 2^62. Times are in nanoseconds. Bytes are
-//! lower-case hex, and `-` where there are none. An address is the 8 or 32 lower-case hex digits of its octets, `/` and a
+//! Numbers are decimal, below 2^64, without leading zeros; a code, a stream's id and the N of `streams` and
+//! `recvwindow` are below 2^62. Times are in nanoseconds. Bytes are lower-case hex, and `-` where there are none. An address is the 8 or 32 lower-case hex digits of its octets, `/` and a
 //! port below 2^16; an IPv6 address has flow label 0 and scope 0. A mark of explicit congestion notification is its two
 //! bits, 1, 2 or 3 (RFC 3168, section 5), and `-` where there is none.
 #![tactic(auto)]
 
 mod address;
 mod fields;
+mod id_lines;
 mod items;
 mod lines;
 mod script;

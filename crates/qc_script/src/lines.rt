@@ -7,6 +7,7 @@ use crate::address::{read_address, read_mark};
 use crate::fields::{
     after_word, first_number, four_fields, read_code, read_hex, read_number, split_at_byte,
 };
+use crate::id_lines::ids_line;
 use crate::stream_lines::stream_line;
 use qc_base::Instant;
 use qc_state::Input;
@@ -150,6 +151,9 @@ pub fn read_line(alloc: Global, text: &[u8]) -> Result<Option<Input>, AllocError
     }
     if let Some(digits) = after_word(text, b"ping ") {
         return Ok(ping_line(digits));
+    }
+    if let Some(fields) = after_word(text, b"ids ") {
+        return ids_line(alloc, fields);
     }
     stream_line(alloc, text)
 }

@@ -55,7 +55,7 @@ fn read_random(alloc: Global, field: &[u8]) -> Result<Option<RandomWords>, Alloc
 }
 
 /// The id that a field spells.
-fn read_id(alloc: Global, field: &[u8]) -> Result<Option<ConnectionId>, AllocError>
+pub fn read_id(alloc: Global, field: &[u8]) -> Result<Option<ConnectionId>, AllocError>
     ensures { IfOk result (λ r. MatchOption r ((id : List ℕ) → IsId id → field.now ≢ hex_field id) (λ id. (field.now ≡ hex_field id) × IsId id)) }
 {
     let Some(bytes) = read_hex(alloc, field)? else {

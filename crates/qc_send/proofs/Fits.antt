@@ -99,7 +99,8 @@ close_fits time s space room fs (Closes.closing acks part kept reason is) wide =
 -- the frames that are taken fit into the room
 pub now_fits : {t : Types} (closing : Bool) (time : ℕ) (s : View t) (space : SpaceId) (room : ℕ) (fs : List FrameValue) → TakenNow closing time s space room fs → 25 ≤ room → length (frames_spelling fs) ≤ room
 now_fits closing time s space room fs (TakenNow.a_close e closes) wide = close_fits time s space room fs closes wide
-now_fits closing time s space room fs (TakenNow.what_waits e taken may some) wide = taken_fits time s.waiting.bundled (is_space space «Data») (space_of s.waiting.spaces space) room fs taken (omega arith)
+now_fits closing time s space room fs (TakenNow.what_waits e taken may oldest next some) wide =
+    taken_fits time s.waiting.bundled (is_space space «Data») (space_of s.waiting.spaces space) room fs taken (omega arith)
 
 -- and behind the header
 pub room_holds : {t : Types} (capacity : ℕ) (s : View t) (form : Form) (bytes : ℕ) → 25 ≤ room_of capacity s form → bytes ≤ room_of capacity s form →

@@ -40,10 +40,10 @@ module _ {t : Types} where
   carries : (opens closing : Bool) (time : ℕ) (s : View t) (form : Form) (room : ℕ) (fs gs : List FrameValue) → 25 ≤ room →
       TakenNow closing time (begun_view s (number_space form) opens) (number_space form) room fs → gs ≡ padded (begun_view s (number_space form) opens) form fs → Carries closing time (begun_view s (number_space form) opens) form room gs
   carries opens closing time s form room fs gs wide (TakenNow.a_close e closes) is_gs = Carries.a_close e fs closes is_gs
-  carries opens closing time s form room fs gs wide (TakenNow.what_waits e taken may some) is_gs =
+  carries opens closing time s form room fs gs wide (TakenNow.what_waits e taken may oldest next some) is_gs =
       let id : SpaceId = number_space form in
       let v : View t = begun_view s id opens in
-      Carries.what_waits e fs (taken_wait time v id room fs taken may) (no_room time v id room fs some (taken_any time v id room fs taken some wide)) is_gs
+      Carries.what_waits e fs (taken_wait time v id room fs taken may oldest next) (no_room time v id room fs some (taken_any time v id room fs taken some wide)) is_gs
 
   -- a first datagram has nothing in it
   first_filled : (opens : Bool) (s : View t) (id : SpaceId) (b : Batch) → opens ≡ true → (begun_batch s id opens b).filled ≡ 0

@@ -1,5 +1,5 @@
 -- What taking frames leaves: the header of the next packet, its size and its bytes; a close and PADDING are taken without a change.
-use Rattle.std.proofs.Common.{◌≡◌, ℕ, ◌+◌, ◌-◌, ◌<◌, ◌==◌, ◌⊎◌, not, inl, inr, append-nil, arith, List, [], ◌∷◌, ◌++◌, length, replicate, refl, ap, sym, ◌∙◌, Bool, true, false, ◌&&◌, if◌then◌else◌, Option, Some, None}
+use Rattle.std.proofs.Common.{◌≡◌, ℕ, ◌+◌, ◌-◌, ◌<◌, ◌==◌, ◌⊎◌, ◌||◌, not, inl, inr, append-nil, arith, List, [], ◌∷◌, ◌++◌, length, replicate, refl, ap, sym, ◌∙◌, Bool, true, false, ◌&&◌, if◌then◌else◌, Option, Some, None}
 use Rattle.std.specs.List.{list_any}
 use Rattle.qc_base.specs.declared.side.SpaceId.{SpaceId}
 use Rattle.qc_base.specs.declared.side.SpaceId.TheVariants.{Initial, Handshake, «Data»}
@@ -20,6 +20,7 @@ use Rattle.qc_packet.specs.PacketSpelling.{padding_len}
 use Rattle.qc_state.specs.Draws.{bit}
 use Rattle.qc_state.specs.declared.deeds.Did.{Did}
 use Rattle.qc_state.specs.declared.transmit.TheConstants.{DATAGRAM_SIZE}
+use Rattle.qc_state.specs.declared.lower.Lower.{Lower}
 use Rattle.qc_state.specs.declared.waiting.SpaceWaiting.{SpaceWaiting}
 use Rattle.qc_state.specs.Keys.{header_key, packet_key}
 use Rattle.qc_state.specs.Moves.{Take, Seal, state_move, move_to, numbers_move, keys_move, life_move, paths_move, timers_move, waiting_move, setup_move, lower_move, deeds_move}
@@ -32,9 +33,16 @@ use Rattle.qc_state.specs.View.{View, At, at}
 use Rattle.qc_state.specs.Taking.{TakenPart}
 use Rattle.qc_state.specs.Waiting.{waiting_without, without, without_all}
 use Rattle.qc_state.specs.Acks.{is_ack_owed}
-use Rattle.qc_state.specs.Lower.{streams_stepped}
-use Rattle.qc_state.specs.Offers.{wants_sending}
+use Rattle.qc_cids.specs.Steps as ids
+use Rattle.qc_datagrams.specs.Steps as posts
+use Rattle.qc_state.specs.Datagrams.{AllOldest, sealed_datagrams}
+use Rattle.qc_state.specs.Ids.{AllNext, sealed_cids}
+use Rattle.qc_state.specs.Lower.{frames_sealed}
+use Rattle.qc_state.specs.Offers.{datagram_waits, wants_sending}
 use Rattle.qc_state.specs.StreamFrames.{sealed_steps}
+use Rattle.qc_state.proofs.DatagramSteps.{datagrams_append, datagrams_closing, datagrams_padded}
+use Rattle.qc_state.proofs.IdSteps.{cids_append, cids_closing, cids_padded}
+use Rattle.qc_state.proofs.OffersTaken.{sealed_same}
 use Rattle.qc_state.proofs.SealedSteps.{sealed_append, sealed_closing, sealed_padded}
 use Rattle.qc_streams.specs.Steps.{AllMay}
 use Rattle.qc_streams.specs.Waits.{Step}
@@ -60,19 +68,31 @@ module _ {t : Types} where
   pub take_padded : (form : Form) (fs : List FrameValue) (s : View t) → state_move (Take (number_space form) (padded s form fs)) s ≡ state_move (Take (number_space form) fs) s
   unfolding state_move numbers_move keys_move life_move paths_move timers_move waiting_move setup_move lower_move waiting_without padded
   take_padded form fs s =
-      ap (λ (w : SpaceWaiting). record s { waiting = record s.waiting { spaces = with_space s.waiting.spaces (number_space form) w }; lower = streams_stepped (sealed_steps (padded s form fs)) s.lower })
-      (without_padded (space_of s.waiting.spaces (number_space form)) fs (padding_of s form fs))
-      ∙ ap (λ (xs : List Step). record s { waiting = waiting_without s.waiting (number_space form) fs; lower = streams_stepped xs s.lower }) (sealed_padded fs (padding_of s form fs))
+      let gs : List FrameValue = padded s form fs in
+      let n : ℕ = padding_of s form fs in
+      ap (λ (w : SpaceWaiting). record s { waiting = record s.waiting { spaces = with_space s.waiting.spaces (number_space form) w }; lower = frames_sealed gs s.lower })
+      (without_padded (space_of s.waiting.spaces (number_space form)) fs n)
+      ∙ ap (λ (l : Lower t.S). record s { waiting = waiting_without s.waiting (number_space form) fs; lower = l })
+      (sealed_same gs fs s.lower (sealed_padded fs n) (datagrams_padded fs n) (cids_padded fs n))
 
   -- a close behind an ACK changes nothing more of what waits
   close_behind : (s : View t) (id : SpaceId) (kept : List ℕ) (acks : List FrameValue) → state_move (Take id acks) s ≡ state_move (Take id (acks ++ closing_frame id kept s.life ∷ [])) s
-  unfolding state_move numbers_move keys_move life_move paths_move timers_move waiting_move setup_move lower_move waiting_without without_all sealed_steps
+  unfolding state_move numbers_move keys_move life_move paths_move timers_move waiting_move setup_move lower_move waiting_without without_all sealed_steps sealed_datagrams sealed_cids
   close_behind s id kept acks =
       let w : SpaceWaiting = space_of s.waiting.spaces id in
-      ap (λ (x : SpaceWaiting). record s { waiting = record s.waiting { spaces = with_space s.waiting.spaces id x }; lower = streams_stepped (sealed_steps acks) s.lower })
+      let all : List FrameValue = acks ++ closing_frame id kept s.life ∷ [] in
+      let steps : sealed_steps all ≡ sealed_steps acks =
+      sealed_append acks (closing_frame id kept s.life ∷ []) ∙ ap (λ (xs : List Step). sealed_steps acks ++ (xs ++ [])) (sealed_closing id kept (is_closed s.life.state) s.life.close)
+      ∙ append-nil (sealed_steps acks) in
+      let datagrams : sealed_datagrams all ≡ sealed_datagrams acks =
+      datagrams_append acks (closing_frame id kept s.life ∷ []) ∙ ap (λ (xs : List posts.Step). sealed_datagrams acks ++ (xs ++ [])) (datagrams_closing id kept (is_closed s.life.state) s.life.close)
+      ∙ append-nil (sealed_datagrams acks) in
+      let cids : sealed_cids all ≡ sealed_cids acks =
+      cids_append acks (closing_frame id kept s.life ∷ []) ∙ ap (λ (xs : List ids.Step). sealed_cids acks ++ (xs ++ [])) (cids_closing id kept (is_closed s.life.state) s.life.close)
+      ∙ append-nil (sealed_cids acks) in
+      ap (λ (x : SpaceWaiting). record s { waiting = record s.waiting { spaces = with_space s.waiting.spaces id x }; lower = frames_sealed acks s.lower })
       (sym (without_all_append w acks (closing_frame id kept s.life ∷ []) ∙ close_stays (without_all w acks) id kept (is_closed s.life.state) s.life.close))
-      ∙ ap (λ (xs : List Step). record s { waiting = waiting_without s.waiting id (acks ++ closing_frame id kept s.life ∷ []); lower = streams_stepped xs s.lower })
-      (sym (sealed_append acks (closing_frame id kept s.life ∷ []) ∙ ap (λ (xs : List Step). sealed_steps acks ++ (xs ++ [])) (sealed_closing id kept (is_closed s.life.state) s.life.close) ∙ append-nil (sealed_steps acks)))
+      ∙ ap (λ (l : Lower t.S). record s { waiting = waiting_without s.waiting id all; lower = l }) (sealed_same acks all s.lower (sym steps) (sym datagrams) (sym cids))
 
   -- where the ACK was taken, the close behind it was taken too
   pub close_taken : (s mid : View t) (id : SpaceId) (kept : List ℕ) (acks fs : List FrameValue) → mid ≡ state_move (Take id acks) s → fs ≡ acks ++ closing_frame id kept s.life ∷ [] → mid ≡ state_move (Take id fs) s
@@ -86,15 +106,16 @@ module _ {t : Types} where
 
   -- and else it takes frames that wait
   pub takes_waiting : (closing : Bool) (time : ℕ) (s : View t) (id : SpaceId) (room : ℕ) (fs : List FrameValue) → closing ≡ false →
-      TakenPart time s.waiting.bundled (is_space id «Data») (space_of s.waiting.spaces id) room fs → AllMay (sealed_steps fs) s.lower.streams → (0 < length fs) ⊎ OwesAckAlone s id → TakenNow closing time s id room fs
-  takes_waiting closing time s id room fs free part may some = TakenNow.what_waits free part may some
+      TakenPart time s.waiting.bundled (is_space id «Data») (space_of s.waiting.spaces id) room fs → AllMay (sealed_steps fs) s.lower.streams → AllOldest fs s.lower.datagrams →
+      AllNext fs s.lower.ids → (0 < length fs) ⊎ OwesAckAlone s id → TakenNow closing time s id room fs
+  takes_waiting closing time s id room fs free part may oldest next some = TakenNow.what_waits free part may oldest next some
 
   -- there is one, or an ACK is all that is owed
-  pub some_or_ack : (s : View t) (id : SpaceId) (fs : List FrameValue) (empty alone : Bool) → empty ≡ (length fs == 0) → alone ≡ (not (wants_sending s id) && is_ack_owed (space_of s.waiting.spaces id).acks) →
+  pub some_or_ack : (s : View t) (id : SpaceId) (fs : List FrameValue) (empty alone : Bool) → empty ≡ (length fs == 0) → alone ≡ (not (wants_sending s id || datagram_waits id s) && is_ack_owed (space_of s.waiting.spaces id).acks) →
       (empty && not alone) ≡ false → (0 < length fs) ⊎ OwesAckAlone s id
-  some_or_ack s id [] empty alone is_empty is_alone h = by_alone (wants_sending s id) (is_ack_owed (space_of s.waiting.spaces id).acks) empty alone refl refl is_empty is_alone h
+  some_or_ack s id [] empty alone is_empty is_alone h = by_alone (wants_sending s id || datagram_waits id s) (is_ack_owed (space_of s.waiting.spaces id).acks) empty alone refl refl is_empty is_alone h
     where
-      by_alone : (a b empty alone : Bool) → wants_sending s id ≡ a → is_ack_owed (space_of s.waiting.spaces id).acks ≡ b → empty ≡ true → alone ≡ (not a && b) → (empty && not alone) ≡ false → (0 < 0) ⊎ OwesAckAlone s id
+      by_alone : (a b empty alone : Bool) → (wants_sending s id || datagram_waits id s) ≡ a → is_ack_owed (space_of s.waiting.spaces id).acks ≡ b → empty ≡ true → alone ≡ (not a && b) → (empty && not alone) ≡ false → (0 < 0) ⊎ OwesAckAlone s id
       by_alone false true empty alone wants owes is_empty is_alone h = inr (record { owed = owes; alone = wants })
       by_alone false false true false wants owes is_empty is_alone h = cc
       by_alone false false true true wants owes is_empty is_alone h = cc

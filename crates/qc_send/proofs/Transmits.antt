@@ -5,7 +5,8 @@ use Rattle.qc_state.specs.declared.transmit.Transmit.{Transmit}
 use Rattle.qc_state.specs.Keys.{form_in}
 use Rattle.qc_state.specs.Moves.{move_to, Say}
 use Rattle.qc_state.specs.Paths.{is_blocked}
-use Rattle.qc_state.specs.Sending.{packet_after, transmit_after, MayTransmit, transmit_bytes, transmit_with, transmit_of, Transmits, kill_in, quiet_of, HasTurn, Went, Hushed, Died, ending_after, Going, going, going_from, SendsOne, batch_begun, finished_after, gone_after, path_size}
+use Rattle.qc_state.specs.Sending.{packet_after, transmit_after, MayTransmit, transmit_bytes, transmit_with, transmit_of, Transmits, kill_in, quiet_of, HasTurn, Went, Hushed, Died, ending_after, Going, going, going_from, SendsOne, batch_begun, finished_after, gone_after}
+use Rattle.qc_state.specs.Offers.{path_size}
 use Rattle.qc_state.specs.Types.{Types, Meaning}
 use Rattle.qc_state.specs.View.{At}
 use Rattle.qc_state.specs.declared.life.ConnectionError.{ConnectionError}

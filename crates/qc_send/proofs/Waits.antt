@@ -1,28 +1,36 @@
 -- The frames that this end takes wait, there is one where one waits, and they fit.
-use Rattle.std.proofs.Common.{◌≡◌, ℕ, zero, suc, ◌+◌, ◌-◌, ◌%◌, ◌<◌, ◌≤◌, List, [], ◌∷◌, ◌++◌, length, replicate, refl, ap, sym, ◌∙◌, subst, Bool, true, false, ◌||◌, not, ◌==◌, ◌⊎◌, if◌then◌else◌, Option, arith, length-append, append_assoc, append-nil, inl, inr}
+use Rattle.std.proofs.Common.{◌≡◌, ℕ, zero, suc, ◌+◌, ◌-◌, ◌%◌, ◌<◌, ◌≤◌, List, [], ◌∷◌, ◌++◌, length, replicate, refl, ap, sym, ◌∙◌, subst, Bool, true, false, ◌||◌, ◌⊎◌, if◌then◌else◌, Option, arith, length-append, append_assoc, append-nil, inl, inr}
 use Rattle.std.proofs.lemmas.Grind.{flat_map-append}
 use Rattle.qc_base.specs.Varint.{varint, spelled, limit, one, two, four, eight}
 use Rattle.qc_frame.specs.Frame.{FrameValue, AckValue}
 use Rattle.qc_frame.specs.FrameFits.{Fits}
 use Rattle.qc_frame.specs.FrameSpelling.{spelling, frames_spelling}
-use Rattle.qc_frame.specs.declared.frames.FrameOf.TheVariants.{Padding, HandshakeDone, Ping, Ack, Crypto, Stream, ResetStream, StopSending, MaxData, MaxStreamData, MaxStreams}
+use Rattle.qc_frame.specs.declared.frames.FrameOf.TheVariants.{Padding, HandshakeDone, Ping, Ack, Crypto, Stream, ResetStream, StopSending, MaxData, MaxStreamData, MaxStreams, Datagram, NewConnectionId, RetireConnectionId}
 use Rattle.qc_state.specs.Acks.{AckPart, SaysAck, is_ack_first, is_ack_given, is_ack_last, is_ack_owed}
 use Rattle.qc_state.specs.declared.waiting.SpaceWaiting.{SpaceWaiting}
 use Rattle.qc_state.proofs.AckLemmas.{first_gives, last_gives, owed_first, part_same}
-use Rattle.qc_state.proofs.SealedSteps.{sealed_append}
-use Rattle.qc_state.proofs.Taken.{front_steps, last_counts, last_same, part_steps, streams_stay}
+use Rattle.qc_cids.specs.Steps as ids
+use Rattle.qc_cids.specs.declared.connection_ids.ConnectionIds.{ConnectionIds}
+use Rattle.qc_datagrams.specs.Steps as posts
+use Rattle.qc_datagrams.specs.declared.datagrams.Datagrams.{Datagrams}
+use Rattle.qc_state.proofs.DatagramSteps.{taken_datagrams}
+use Rattle.qc_state.proofs.IdSteps.{taken_cids}
+use Rattle.qc_state.proofs.OffersTaken.{frames_sealed_append}
+use Rattle.qc_state.proofs.Taken.{front_cids, front_datagrams, front_steps, last_counts, last_same, offered_stays, own_next, own_oldest, part_steps}
 use Rattle.qc_state.specs.Allowed.{Waits, WaitAll}
-use Rattle.qc_state.specs.Lower.{streams_stepped}
+use Rattle.qc_state.specs.Datagrams.{AllOldest, IsOldest, sealed_datagrams}
+use Rattle.qc_state.specs.Ids.{AllNext, IsNext, sealed_cids}
+use Rattle.qc_state.specs.Lower.{datagrams_stepped, frames_sealed, ids_stepped, streams_stepped}
 use Rattle.qc_state.specs.Moves.{Take, state_move, numbers_move, keys_move, life_move, paths_move, timers_move, waiting_move, setup_move, lower_move}
 use Rattle.qc_state.specs.Spaces.{is_space, space_of, with_space}
 use Rattle.qc_state.specs.StreamFrames.{sealed_step, sealed_steps}
-use Rattle.qc_state.specs.Taking.{AreOfStreams, room_behind, marks_part, done_part, ping_part, is_streams_frame, CryptoPart, TakenPart}
+use Rattle.qc_state.specs.Taking.{AreOffered, room_behind, marks_part, done_part, ping_part, is_offered_frame, CryptoPart, TakenPart}
 use Rattle.qc_state.specs.Types.{Types}
 use Rattle.qc_state.specs.View.{View}
 use Rattle.qc_state.specs.Waiting.{StartsWith, without, without_all, crypto_waits, waiting_without, wants_here}
+use Rattle.qc_state.specs.declared.lower.Lower.{Lower}
 use Rattle.qc_state.specs.declared.waiting.Waiting.{Waiting}
 use Rattle.qc_send.specs.Taking.{OwesAckAlone}
-use Rattle.qc_streams.proofs.StepsLaw.{after_append}
 use Rattle.qc_streams.specs.Steps.{AllMay, IsSealedSo}
 use Rattle.qc_streams.specs.Waits.{Step, after}
 use Rattle.qc_streams.specs.declared.state.StreamsState.{StreamsState}
@@ -117,11 +125,11 @@ front_waits time room rest left bundled w acks crypto last a b g h part bytes bu
     by_marks false true g h bytes = let rest = behind (record w { ping = false }) refl refl bytes in ((h, rest.0), rest.1)
     by_marks false false g h bytes = behind w refl refl bytes
 
--- the frames in front of those of the streams
+-- the frames in front of those that the layers below offer
 abbrev front_of : SpaceWaiting → (acks crypto : List FrameValue) → List FrameValue
 front_of w acks crypto = marks_part w ++ (acks ++ crypto)
 
--- the frames that this end takes of the waiting group wait: those in front of the frames of the streams, and the ACK behind them
+-- the frames that this end takes of the waiting group wait: those in front of the frames that the layers below offer, and the ACK behind them
 taken_waits : (time : ℕ) (bundled : Option ℕ) (in_data : Bool) (w : SpaceWaiting) (room : ℕ) (fs : List FrameValue) → (taken : TakenPart time bundled in_data w room fs) →
     HereAll time bundled w (front_of w taken.acks taken.crypto) × HereAll time bundled (without_all w (front_of w taken.acks taken.crypto)) taken.last
 unfolding marks_part done_part ping_part
@@ -286,10 +294,6 @@ taken_fits time bundled in_data w room fs taken r =
       ack_fits time taken.left w taken.last (is_ack_last time bundled w.acks) taken.bundle,
     )
 
--- the steps of joined lists
-taken_twice_streams : (fs gs : List FrameValue) (s : StreamsState) → after (sealed_steps gs) (after (sealed_steps fs) s) ≡ after (sealed_steps (fs ++ gs)) s
-taken_twice_streams fs gs s = sym (ap (λ (xs : List Step). after xs s) (sealed_append fs gs) ∙ after_append (sealed_steps fs) (sealed_steps gs) s)
-
 -- a space that is that of 1-RTT packets
 is_data : (id : SpaceId) → is_space id «Data» ≡ true → id ≡ «Data»
 is_data Initial h = cc
@@ -331,13 +335,13 @@ module _ {t : Types} where
 
   -- what lists leave that are taken one behind the other
   taken_twice : (id : SpaceId) (fs gs : List FrameValue) (s : View t) → state_move (Take id gs) (state_move (Take id fs) s) ≡ state_move (Take id (fs ++ gs)) s
-  unfolding state_move numbers_move keys_move life_move paths_move timers_move waiting_move setup_move lower_move streams_stepped
+  unfolding state_move numbers_move keys_move life_move paths_move timers_move waiting_move setup_move lower_move
   taken_twice id fs gs s =
-      ap (λ (w : Waiting). record s { waiting = w; lower = record s.lower { streams = after (sealed_steps gs) (after (sealed_steps fs) s.lower.streams) } }) (taken_twice_waiting id fs gs s)
-      ∙ ap (λ (x : StreamsState). record s { waiting = waiting_without s.waiting id (fs ++ gs); lower = record s.lower { streams = x } }) (taken_twice_streams fs gs s.lower.streams)
+      ap (λ (w : Waiting). record s { waiting = w; lower = frames_sealed gs (frames_sealed fs s.lower) }) (taken_twice_waiting id fs gs s)
+      ∙ ap (λ (l : Lower t.S). record s { waiting = waiting_without s.waiting id (fs ++ gs); lower = l }) (sym (frames_sealed_append fs gs s.lower))
 
   nothing_taken : (id : SpaceId) (s : View t) → state_move (Take id []) s ≡ s
-  unfolding state_move numbers_move keys_move life_move paths_move timers_move waiting_move setup_move lower_move streams_stepped waiting_without without_all sealed_steps after
+  unfolding state_move numbers_move keys_move life_move paths_move timers_move waiting_move setup_move lower_move frames_sealed streams_stepped datagrams_stepped ids_stepped waiting_without without_all sealed_steps sealed_datagrams sealed_cids after posts.after ids.after
   nothing_taken Initial s = refl
   nothing_taken Handshake s = refl
   nothing_taken Data s = refl
@@ -350,46 +354,65 @@ module _ {t : Types} where
       let v : View t = state_move (Take id (f ∷ [])) s in
       (a.0, wait_append time v id fs gs a.1 (subst (λ (x : View t). WaitAll time x id gs) (sym (taken_twice id (f ∷ []) fs s)) b))
 
-  -- ---- frames of the streams
+  -- ---- frames that the layers below offer
 
   -- what one leaves of the streams
   one_taken : (id : SpaceId) (f : FrameValue) (s : View t) → (state_move (Take id (f ∷ [])) s).lower.streams ≡ after (sealed_step f) s.lower.streams
-  unfolding state_move lower_move streams_stepped sealed_steps
+  unfolding state_move lower_move frames_sealed streams_stepped datagrams_stepped ids_stepped sealed_steps
   one_taken id f s = ap (λ (xs : List Step). after xs s.lower.streams) (append-nil (sealed_step f))
 
-  -- one of them waits, where the step that it is may be made
-  own_waits : (time : ℕ) (s : View t) (id : SpaceId) (f : FrameValue) (xs : List Step) → is_space id «Data» ≡ true → is_streams_frame f ≡ true → Fits f → AllMay (sealed_step f ++ xs) s.lower.streams →
-      Waits time s id f × AllMay xs (after (sealed_step f) s.lower.streams)
+  -- one of them waits, where the step of the streams that it is may be made, or it is a DATAGRAM with the oldest datagram, or the next one
+  -- about connection ids
+  own_waits : (time : ℕ) (s : View t) (id : SpaceId) (f : FrameValue) (xs : List Step) → is_space id «Data» ≡ true → is_offered_frame f ≡ true → Fits f → AllMay (sealed_step f ++ xs) s.lower.streams →
+      IsOldest f s.lower.datagrams → IsNext f s.lower.ids → Waits time s id f × AllMay xs (after (sealed_step f) s.lower.streams)
   unfolding Waits AllMay IsSealedSo after
-  own_waits time s id (Stream stream offset fin body) xs is own fits may = ((is_data id is, may.0.sealed, fits), may.1)
-  own_waits time s id (ResetStream stream code size) xs is own fits may = ((is_data id is, may.0.sealed, fits), may.1)
-  own_waits time s id (StopSending stream code) xs is own fits may = ((is_data id is, may.0.sealed, fits), may.1)
-  own_waits time s id (MaxData limit) xs is own fits may = ((is_data id is, may.0.sealed, fits), may.1)
-  own_waits time s id (MaxStreamData stream limit) xs is own fits may = ((is_data id is, may.0.sealed, fits), may.1)
-  own_waits time s id (MaxStreams dir limit) xs is own fits may = ((is_data id is, may.0.sealed, fits), may.1)
-  own_waits time s id _ xs is own fits may = cc
+  own_waits time s id (Stream stream offset fin body) xs is own fits may oldest next = ((is_data id is, may.0.sealed, fits), may.1)
+  own_waits time s id (ResetStream stream code size) xs is own fits may oldest next = ((is_data id is, may.0.sealed, fits), may.1)
+  own_waits time s id (StopSending stream code) xs is own fits may oldest next = ((is_data id is, may.0.sealed, fits), may.1)
+  own_waits time s id (MaxData limit) xs is own fits may oldest next = ((is_data id is, may.0.sealed, fits), may.1)
+  own_waits time s id (MaxStreamData stream limit) xs is own fits may oldest next = ((is_data id is, may.0.sealed, fits), may.1)
+  own_waits time s id (MaxStreams dir limit) xs is own fits may oldest next = ((is_data id is, may.0.sealed, fits), may.1)
+  own_waits time s id (Datagram body) xs is own fits may oldest next = ((is_data id is, oldest, fits), may)
+  own_waits time s id (NewConnectionId new) xs is own fits may oldest next = ((is_data id is, next, fits), may)
+  own_waits time s id (RetireConnectionId sequence) xs is own fits may oldest next = ((is_data id is, next), may)
+  own_waits time s id _ xs is own fits may oldest next = cc
 
-  own_wait : (time : ℕ) (s : View t) (id : SpaceId) (fs : List FrameValue) → AreOfStreams (is_space id «Data») fs → AllMay (sealed_steps fs) s.lower.streams → WaitAll time s id fs
-  unfolding WaitAll sealed_steps
-  own_wait time s id [] are may = tt
-  own_wait time s id (f ∷ fs) are may =
-      let first : Waits time s id f × AllMay (sealed_steps fs) (after (sealed_step f) s.lower.streams) = own_waits time s id f (sealed_steps fs) are.0 are.1 are.2 may in
-      (first.0, own_wait time (state_move (Take id (f ∷ [])) s) id fs are.3 (subst (λ (x : StreamsState). AllMay (sealed_steps fs) x) (sym (one_taken id f s)) first.1))
+  own_wait : (time : ℕ) (s : View t) (id : SpaceId) (fs : List FrameValue) → AreOffered (is_space id «Data») fs → AllMay (sealed_steps fs) s.lower.streams → AllOldest fs s.lower.datagrams →
+      AllNext fs s.lower.ids → WaitAll time s id fs
+  unfolding WaitAll sealed_steps AllOldest AllNext
+  own_wait time s id [] are may oldest next = tt
+  own_wait time s id (f ∷ fs) are may oldest next =
+      let first : Waits time s id f × AllMay (sealed_steps fs) (after (sealed_step f) s.lower.streams) = own_waits time s id f (sealed_steps fs) are.0 are.1 are.2 may oldest.0 next.0 in (
+        first.0,
+        own_wait time (state_move (Take id (f ∷ [])) s) id fs are.3 (subst (λ (x : StreamsState). AllMay (sealed_steps fs) x) (sym (one_taken id f s)) first.1)
+            (subst (λ (x : Datagrams). AllOldest fs x) (sym (taken_datagrams id f s)) oldest.1)
+            (subst (λ (x : ConnectionIds). AllNext fs x) (sym (taken_cids id f s)) next.1),
+      )
 
   -- ---- all frames
 
-  -- those in front of the frames of the streams are no steps of theirs
+  -- those in front of the frames that the layers below offer are no steps of the streams, nor of the datagrams, nor of the connection ids
   front_streams : (time : ℕ) (bundled : Option ℕ) (in_data : Bool) (w : SpaceWaiting) (id : SpaceId) (room : ℕ) (fs : List FrameValue) (s : View t) → (taken : TakenPart time bundled in_data w room fs) →
       (state_move (Take id (front_of w taken.acks taken.crypto)) s).lower.streams ≡ s.lower.streams
-  unfolding state_move lower_move streams_stepped after
+  unfolding state_move lower_move frames_sealed streams_stepped datagrams_stepped ids_stepped after
   front_streams time bundled in_data w id room fs s taken = ap (λ (xs : List Step). after xs s.lower.streams) (front_steps time bundled in_data w room fs taken)
 
-  -- what waits of a space behind frames of the streams
-  own_space : (id : SpaceId) (fs own : List FrameValue) (s : View t) (w : SpaceWaiting) → AreOfStreams (is_space id «Data») own → w ≡ space_of s.waiting.spaces id →
+  front_posts : (time : ℕ) (bundled : Option ℕ) (in_data : Bool) (w : SpaceWaiting) (id : SpaceId) (room : ℕ) (fs : List FrameValue) (s : View t) → (taken : TakenPart time bundled in_data w room fs) →
+      (state_move (Take id (front_of w taken.acks taken.crypto)) s).lower.datagrams ≡ s.lower.datagrams
+  unfolding state_move lower_move frames_sealed streams_stepped datagrams_stepped ids_stepped posts.after
+  front_posts time bundled in_data w id room fs s taken = ap (λ (xs : List posts.Step). posts.after xs s.lower.datagrams) (front_datagrams time bundled in_data w room fs taken)
+
+  front_ids : (time : ℕ) (bundled : Option ℕ) (in_data : Bool) (w : SpaceWaiting) (id : SpaceId) (room : ℕ) (fs : List FrameValue) (s : View t) → (taken : TakenPart time bundled in_data w room fs) →
+      (state_move (Take id (front_of w taken.acks taken.crypto)) s).lower.ids ≡ s.lower.ids
+  unfolding state_move lower_move frames_sealed streams_stepped datagrams_stepped ids_stepped ids.after
+  front_ids time bundled in_data w id room fs s taken = ap (λ (xs : List ids.Step). ids.after xs s.lower.ids) (front_cids time bundled in_data w room fs taken)
+
+  -- what waits of a space behind frames that the layers below offer
+  own_space : (id : SpaceId) (fs own : List FrameValue) (s : View t) (w : SpaceWaiting) → AreOffered (is_space id «Data») own → w ≡ space_of s.waiting.spaces id →
       space_of (state_move (Take id (fs ++ own)) s).waiting.spaces id ≡ without_all w fs
   unfolding state_move waiting_move waiting_without
   own_space id fs own s w are is =
-      space_again id (fs ++ own) s ∙ without_all_append (space_of s.waiting.spaces id) fs own ∙ streams_stay (is_space id «Data») (without_all (space_of s.waiting.spaces id) fs) own are
+      space_again id (fs ++ own) s ∙ without_all_append (space_of s.waiting.spaces id) fs own ∙ offered_stays (is_space id «Data») (without_all (space_of s.waiting.spaces id) fs) own are
       ∙ ap (λ (x : SpaceWaiting). without_all x fs) (sym is)
     where
       space_again : (id : SpaceId) (gs : List FrameValue) (s : View t) → space_of (with_space s.waiting.spaces id (without_all (space_of s.waiting.spaces id) gs)) id ≡ without_all (space_of s.waiting.spaces id) gs
@@ -403,8 +426,8 @@ module _ {t : Types} where
 
   -- the frames that this end takes in a space wait there
   pub taken_wait : (time : ℕ) (s : View t) (id : SpaceId) (room : ℕ) (fs : List FrameValue) → TakenPart time s.waiting.bundled (is_space id «Data») (space_of s.waiting.spaces id) room fs →
-      AllMay (sealed_steps fs) s.lower.streams → WaitAll time s id fs
-  taken_wait time s id room fs taken may =
+      AllMay (sealed_steps fs) s.lower.streams → AllOldest fs s.lower.datagrams → AllNext fs s.lower.ids → WaitAll time s id fs
+  taken_wait time s id room fs taken may oldest next =
       let w : SpaceWaiting = space_of s.waiting.spaces id in
       let front : List FrameValue = front_of w taken.acks taken.crypto in
       let here = taken_waits time s.waiting.bundled (is_space id «Data») w room fs taken in
@@ -413,10 +436,16 @@ module _ {t : Types} where
       let own_may : AllMay (sealed_steps taken.own) v.lower.streams =
       subst (λ (x : StreamsState). AllMay (sealed_steps taken.own) x) (sym (front_streams time s.waiting.bundled (is_space id «Data») w id room fs s taken))
       (subst (λ (xs : List Step). AllMay xs s.lower.streams) (part_steps time s.waiting.bundled (is_space id «Data») w room fs taken) may) in
-      let own_all : WaitAll time s id (front ++ taken.own) = wait_append time s id front taken.own (here_all time s id front here.0) (own_wait time v id taken.own taken.streams own_may) in
+      let turns : AllOldest taken.own v.lower.datagrams =
+      subst (λ (x : Datagrams). AllOldest taken.own x) (sym (front_posts time s.waiting.bundled (is_space id «Data») w id room fs s taken))
+      (own_oldest time s.waiting.bundled (is_space id «Data») w room fs s.lower.datagrams taken oldest) in
+      let nexts : AllNext taken.own v.lower.ids =
+      subst (λ (x : ConnectionIds). AllNext taken.own x) (sym (front_ids time s.waiting.bundled (is_space id «Data») w id room fs s taken))
+      (own_next time s.waiting.bundled (is_space id «Data») w room fs s.lower.ids taken next) in
+      let own_all : WaitAll time s id (front ++ taken.own) = wait_append time s id front taken.own (here_all time s id front here.0) (own_wait time v id taken.own taken.offered own_may turns nexts) in
       let last : HereAll time u.waiting.bundled (space_of u.waiting.spaces id) taken.last =
       subst (λ (b : Option ℕ). HereAll time b (space_of u.waiting.spaces id) taken.last) (sym (bundled_all id (front ++ taken.own) s))
-      (subst (λ (x : SpaceWaiting). HereAll time s.waiting.bundled x taken.last) (sym (own_space id front taken.own s w taken.streams refl)) here.1) in
+      (subst (λ (x : SpaceWaiting). HereAll time s.waiting.bundled x taken.last) (sym (own_space id front taken.own s w taken.offered refl)) here.1) in
       subst (λ (x : List FrameValue). WaitAll time s id x) (sym (taken.all ∙ simp append_assoc))
       (wait_append time s id (front ++ taken.own) taken.last own_all (here_all time u id taken.last last))
 

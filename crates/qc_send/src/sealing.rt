@@ -15,6 +15,8 @@ ghost use Rattle.qc_state.specs.Moves.{Take, Seal, move_to, state_move};
 ghost use Rattle.qc_state.specs.Numbers.{next_number, acked_number};
 ghost use Rattle.qc_state.specs.Sending.{is_key_nearly_used_up, flips_now, header_in, room_of, finished_after, spared_after, begun_after, skipped_after, fills, packet_size, least_size, padded, packet_bytes, is_flown, sealed_with, transmit_with};
 ghost use Rattle.qc_state.specs.Spaces.{is_space, space_of};
+ghost use Rattle.qc_state.specs.Datagrams.{AllOldest};
+ghost use Rattle.qc_state.specs.Ids.{AllNext};
 ghost use Rattle.qc_state.specs.StreamFrames.{sealed_steps};
 ghost use Rattle.qc_state.specs.Taking.{TakenPart};
 ghost use Rattle.qc_state.specs.View.{ideal, held};
@@ -182,12 +184,16 @@ fn take_waiting<U: Suite>(
 ) -> Result<FrameList, AllocError>
     ensures part { IfOk result (λ frames. TakenPart now core.old.waiting.bundled (is_space space «Data») (space_of core.old.waiting.spaces space) room frames) }
     ensures may { IfOk result (λ frames. AllMay (sealed_steps frames) core.old.lower.streams) }
+    ensures oldest { IfOk result (λ frames. AllOldest frames core.old.lower.datagrams) }
+    ensures next { IfOk result (λ frames. AllNext frames core.old.lower.ids) }
     ensures some { IfOk result (λ frames. (0 < length frames) ⊎ OwesAckAlone (ideal U.Random.stream core.old) space) }
     ensures leads { IfOk result (λ frames. (ideal U.Random.stream core.new) ≡ state_move (Take space frames) (ideal U.Random.stream core.old)) }
 {
     let ack_alone = core.owes_ack_alone(space);
     let frames = core.do_take(alloc, now, space, room)?;
-    // A frame that waits is taken where there is room for 25 bytes, and more there is in each packet: this refusal doesn't come.
+    // A frame that waits is taken where there is room for 25 bytes, and more there is in each packet; one about connection ids where
+    // there is room for 54, and more there is in each 1-RTT packet; a DATAGRAM that waits where it fits alone, as it does: this refusal
+    // doesn't come.
     if frames.is_empty() && !ack_alone {
         return Err(AllocError);
     }

@@ -2,7 +2,8 @@
 
 ghost use Rattle.std.specs.Prelude.{◌≡◌, ◌≤◌, [], length, OnOk, OnErr, IfOk};
 ghost use Rattle.qc_send.specs.Failing.{pings_of};
-ghost use Rattle.qc_state.specs.Sending.{MayBegin, SendsOne, Transmits, batch_begun, going, path_size};
+ghost use Rattle.qc_state.specs.Offers.{path_size};
+ghost use Rattle.qc_state.specs.Sending.{MayBegin, SendsOne, Transmits, batch_begun, going};
 ghost use Rattle.qc_state.specs.View.{ideal, held};
 
 use crate::owing::{Turn, is_key_nearly_used_up, is_probe_due, kill, turn_now};

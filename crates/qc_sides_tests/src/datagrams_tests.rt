@@ -127,6 +127,22 @@ fn long_ones_are_dropped_wherever_they_stand(rt: HostRuntime) -> Result<(), Fail
 }
 
 #[test]
+fn sealing_takes_the_oldest_and_forgets_a_refusal(rt: HostRuntime) -> Result<(), Fail> {
+    let mut datagrams = Datagrams::new(rt.alloc(), Some(100), 100);
+    for len in [10, 20] {
+        datagrams.send(of_length(rt.alloc(), len)?)?;
+    }
+    datagrams.refused(SendRefusal::Blocked);
+    for len in [10, 20] {
+        let sealed = datagrams.seal().ok_or("none is to be sent")?;
+        assert_eq!(rt; sealed.len(), len);
+        assert!(rt; !datagrams.blocked);
+    }
+    assert!(rt; datagrams.seal().is_none());
+    Ok(())
+}
+
+#[test]
 fn the_path_and_the_peer_bound_the_size(rt: HostRuntime) {
     // the MTU, the length of the connection id, the peer's max_datagram_frame_size, and how long a
     // datagram may be: the MTU less the first byte, the id, 4 bytes of a number, a tag of 16 and a

@@ -1,5 +1,5 @@
 -- The ACK of a space, from what the calls that make it say.
-use Rattle.std.proofs.Common.{◌≡◌, ℕ, ◌-◌, ◌/◌, ◌<◌, ◌^◌, nat_lt, List, [], length, reverse, refl, ap, sym, ◌∙◌, subst, Bool, true, false, ◌==◌, ◌&&◌, ◌||◌, not, if◌then◌else◌, slice_index_or, Option, Some, None, Vec, arith}
+use Rattle.std.proofs.Common.{◌≡◌, ℕ, ◌-◌, ◌/◌, ◌<◌, ◌^◌, nat_lt, List, [], length, reverse, refl, ap, sym, ◌∙◌, subst, Bool, true, false, ◌==◌, ◌&&◌, ◌||◌, not, slice_index_or, Option, Some, None, Vec, arith}
 use Rattle.std.specs.Prelude.{IfNone, IfSome}
 use Rattle.std.specs.Global.{Global}
 use Rattle.qc_frame.specs.declared.frames.AckOf.{AckOf}

@@ -1,18 +1,20 @@
 -- What holds of each move that a timer makes holds of a timeout; and behind one neither the idle timer nor the close timer, nor that
--- of the pacer or of an ACK which is held back, is left having come.
+-- of the pacer, of ids that grow old or of an ACK which is held back, is left having come.
 use Rattle.std.proofs.Common.{◌≡◌, ℕ, refl, ap, sym, ◌∙◌, subst, Bool, true, false, if◌then◌else◌, Option}
 use Rattle.std.specs.Prelude.{is_none}
 use Rattle.qc_recovery.specs.Steps.{FiredAfter}
 use Rattle.qc_state.specs.declared.life.ConnectionError.{ConnectionError}
 use Rattle.qc_state.specs.declared.life.ConnectionError.TheVariants.{TimedOut}
 use Rattle.qc_state.specs.declared.life.State.TheVariants.{Drained}
-use Rattle.qc_state.specs.Life.{is_drained}
-use Rattle.qc_state.specs.Moves.{Move, Fire, Arm, Pace, Raise, Release, Give, MayMove, state_move, move_to, life_move, timers_move, armed_after, armed_with}
+use Rattle.qc_cids.specs.Cids.{asks_anew}
+use Rattle.qc_state.specs.Life.{is_drained, is_open}
+use Rattle.qc_state.specs.Moves.{Move, Fire, Arm, Outlive, Pace, Raise, Release, Want, Give, MayMove, state_move, move_to, life_move, timers_move, armed_after, armed_with}
 use Rattle.qc_state.specs.Paths.{is_blocked}
 use Rattle.qc_state.specs.Recovering.{fired_by, loss_time}
 use Rattle.qc_state.specs.Stopping.{given_after, killed_after}
-use Rattle.qc_state.specs.Timeouts.{loss_expired, idle_expired, close_expired, pacing_expired, ack_expired, timeout_after}
-use Rattle.qc_state.specs.Timers.{has_come, timers_paced, timers_released, timers_stopped}
+use Rattle.qc_state.specs.Timeouts.{loss_expired, idle_expired, close_expired, pacing_expired, ids_expired, ack_expired, timeout_after, wanted_anew}
+use Rattle.qc_state.specs.Timers.{has_come, timers_outlived, timers_paced, timers_released, timers_stopped}
+use Rattle.qc_state.specs.declared.timers.Timers.{Timers}
 use Rattle.qc_state.specs.Types.{Types, Meaning}
 use Rattle.qc_state.specs.View.{At}
 use Rattle.qc_state.proofs.Telling.{low_rank, is_none_none}
@@ -23,6 +25,8 @@ IsTimed (Fire r) = Unit {0}
 IsTimed (Arm at) = Unit {0}
 IsTimed Pace = Unit {0}
 IsTimed Release = Unit {0}
+IsTimed Outlive = Unit {0}
+IsTimed (Want time count) = Unit {0}
 IsTimed (Raise to) = to ≡ Drained
 IsTimed (Give why) = Unit {0}
 IsTimed _ = ⊥
@@ -39,6 +43,10 @@ module _ {t : Types} where
   unfolding armed_after armed_with move_to state_move life_move
   fired_life time r a true = refl
   fired_life time r a false = refl
+
+  -- what the last three timers do
+  abbrev late : (time : ℕ) → At t → At t
+  late time a = ack_expired time (ids_expired time (pacing_expired time a))
 
 -- those beside the firing of the loss timer
 abbrev pub IsExpiry : {t : Types} → Move t → Type 0
@@ -97,14 +105,29 @@ module _ {t : Types} (m : Meaning t) (R : At t → At t → Type 0) (here : (a :
   released_by a true = move Release tt a tt
   released_by a false = here a
 
-  -- what the last two timers do
-  late_by : (time : ℕ) (a : At t) → R a (ack_expired time (pacing_expired time a))
-  unfolding pacing_expired ack_expired
+  -- others are wanted in the place of ids that have grown old
+  asked_by : (time count : ℕ) (a : At t) (b : Bool) → R a (if b then move_to (Want time count) a else a)
+  unfolding MayMove
+  asked_by time count a true = move (Want time count) tt a tt
+  asked_by time count a false = here a
+
+  outlived_by : (time : ℕ) (a : At t) (b : Bool) → R a (if b then wanted_anew time (asks_anew a.state.lower.ids) (move_to Outlive a) else a)
+  unfolding MayMove
+  outlived_by time a true =
+      let b : At t = move_to Outlive a in
+      next a b _ (move Outlive tt a tt) (asked_by time (asks_anew a.state.lower.ids) b (is_open b.state.life.state))
+  outlived_by time a false = here a
+
+  -- what the last three timers do
+  late_by : (time : ℕ) (a : At t) → R a (late time a)
+  unfolding pacing_expired ids_expired ack_expired
   late_by time a =
       let b : At t = pacing_expired time a in
-      next a b _ (paced_by a (has_come a.state.timers.pacing time)) (released_by b (has_come b.state.timers.max_ack_delay time))
+      let c : At t = ids_expired time b in
+      next a b _ (paced_by a (has_come a.state.timers.pacing time))
+      (next b c _ (outlived_by time b (has_come b.state.timers.push_new_cid time)) (released_by c (has_come c.state.timers.max_ack_delay time)))
 
-  alive_by : (time : ℕ) (a : At t) (b : Bool) → is_drained a.state.life.state ≡ b → R a (if b then a else ack_expired time (pacing_expired time (close_expired time (idle_expired time (loss_expired m time a)))))
+  alive_by : (time : ℕ) (a : At t) (b : Bool) → is_drained a.state.life.state ≡ b → R a (if b then a else late time (close_expired time (idle_expired time (loss_expired m time a))))
   unfolding loss_expired idle_expired
   alive_by time a true h = here a
   alive_by time a false h =
@@ -155,28 +178,47 @@ module _ {t : Types} where
   unfolding close_expired
   ended_close time a = raised_close time a (has_come a.state.timers.close time) refl
 
-  -- the pacer, and an ACK that is owed at last, leave the timers before them
-  late_idle : (time : ℕ) (a : At t) (p q : Bool) → let b : At t = if p then move_to Pace a else a in (if q then move_to Release b else b).state.timers.idle ≡ a.state.timers.idle
-  unfolding move_to state_move timers_move timers_paced timers_released
-  late_idle time a true true = refl
-  late_idle time a true false = refl
-  late_idle time a false true = refl
-  late_idle time a false false = refl
+  -- ids that are wanted leave the timers
+  wanted_left : (time count : ℕ) (a : At t) (b : Bool) → (if b then move_to (Want time count) a else a).state.timers ≡ a.state.timers
+  unfolding move_to state_move timers_move
+  wanted_left time count a true = refl
+  wanted_left time count a false = refl
 
-  late_close : (time : ℕ) (a : At t) (p q : Bool) → let b : At t = if p then move_to Pace a else a in (if q then move_to Release b else b).state.timers.close ≡ a.state.timers.close
-  unfolding move_to state_move timers_move timers_paced timers_released
-  late_close time a true true = refl
-  late_close time a true false = refl
-  late_close time a false true = refl
-  late_close time a false false = refl
+  -- the pacer, ids that have grown old, and an ACK that is owed at last, leave the timers before them
+  paced_left : (f : Timers → Option ℕ) → ((v : Timers) → f (timers_paced v) ≡ f v) → (a : At t) (b : Bool) → f (if b then move_to Pace a else a).state.timers ≡ f a.state.timers
+  unfolding move_to state_move timers_move
+  paced_left f same a true = same a.state.timers
+  paced_left f same a false = refl
 
-  idle_left : (time : ℕ) (a : At t) → (ack_expired time (pacing_expired time a)).state.timers.idle ≡ a.state.timers.idle
-  unfolding pacing_expired ack_expired
-  idle_left time a = late_idle time a (has_come a.state.timers.pacing time) (has_come (pacing_expired time a).state.timers.max_ack_delay time)
+  outlived_left : (f : Timers → Option ℕ) → ((v : Timers) → f (timers_outlived v) ≡ f v) → (time count : ℕ) (a : At t) (b : Bool) → f (if b then wanted_anew time count (move_to Outlive a) else a).state.timers ≡ f a.state.timers
+  unfolding move_to state_move timers_move
+  outlived_left f same time count a true = ap f (wanted_left time count (move_to Outlive a) (is_open (move_to Outlive a).state.life.state)) ∙ same a.state.timers
+  outlived_left f same time count a false = refl
 
-  close_left : (time : ℕ) (a : At t) → (ack_expired time (pacing_expired time a)).state.timers.close ≡ a.state.timers.close
-  unfolding pacing_expired ack_expired
-  close_left time a = late_close time a (has_come a.state.timers.pacing time) (has_come (pacing_expired time a).state.timers.max_ack_delay time)
+  released_left : (f : Timers → Option ℕ) → ((v : Timers) → f (timers_released v) ≡ f v) → (a : At t) (b : Bool) → f (if b then move_to Release a else a).state.timers ≡ f a.state.timers
+  unfolding move_to state_move timers_move
+  released_left f same a true = same a.state.timers
+  released_left f same a false = refl
+
+  -- the last two, and all three
+  last_left : (f : Timers → Option ℕ) → ((v : Timers) → f (timers_outlived v) ≡ f v) → ((v : Timers) → f (timers_released v) ≡ f v) → (time : ℕ) (a : At t) → f (ack_expired time (ids_expired time a)).state.timers ≡ f a.state.timers
+  unfolding ids_expired ack_expired
+  last_left f outlived released time a =
+      let b : At t = ids_expired time a in
+      released_left f released b (has_come b.state.timers.max_ack_delay time) ∙ outlived_left f outlived time (asks_anew a.state.lower.ids) a (has_come a.state.timers.push_new_cid time)
+
+  late_left : (f : Timers → Option ℕ) → ((v : Timers) → f (timers_paced v) ≡ f v) → ((v : Timers) → f (timers_outlived v) ≡ f v) → ((v : Timers) → f (timers_released v) ≡ f v) → (time : ℕ) (a : At t) →
+      f (late time a).state.timers ≡ f a.state.timers
+  unfolding pacing_expired
+  late_left f paced outlived released time a = last_left f outlived released time (pacing_expired time a) ∙ paced_left f paced a (has_come a.state.timers.pacing time)
+
+  idle_left : (time : ℕ) (a : At t) → (late time a).state.timers.idle ≡ a.state.timers.idle
+  unfolding timers_paced timers_outlived timers_released
+  idle_left time a = late_left (λ (v : Timers). v.idle) (λ v. refl) (λ v. refl) (λ v. refl) time a
+
+  close_left : (time : ℕ) (a : At t) → (late time a).state.timers.close ≡ a.state.timers.close
+  unfolding timers_paced timers_outlived timers_released
+  close_left time a = late_left (λ (v : Timers). v.close) (λ v. refl) (λ v. refl) (λ v. refl) time a
 
   -- their own ones are stopped
   paced_pacing : (time : ℕ) (a : At t) (b : Bool) → has_come a.state.timers.pacing time ≡ b → has_come (if b then move_to Pace a else a).state.timers.pacing time ≡ false
@@ -184,16 +226,22 @@ module _ {t : Types} where
   paced_pacing time a true h = refl
   paced_pacing time a false h = h
 
-  released_pacing : (a : At t) (b : Bool) → (if b then move_to Release a else a).state.timers.pacing ≡ a.state.timers.pacing
-  unfolding move_to state_move timers_move timers_released
-  released_pacing a true = refl
-  released_pacing a false = refl
-
-  pacing_left : (time : ℕ) (a : At t) → has_come (ack_expired time (pacing_expired time a)).state.timers.pacing time ≡ false
-  unfolding pacing_expired ack_expired
+  pacing_left : (time : ℕ) (a : At t) → has_come (late time a).state.timers.pacing time ≡ false
+  unfolding pacing_expired timers_outlived timers_released
   pacing_left time a =
-      let b : At t = pacing_expired time a in
-      ap (λ (x : Option ℕ). has_come x time) (released_pacing b (has_come b.state.timers.max_ack_delay time)) ∙ paced_pacing time a (has_come a.state.timers.pacing time) refl
+      ap (λ (x : Option ℕ). has_come x time) (last_left (λ (v : Timers). v.pacing) (λ v. refl) (λ v. refl) time (pacing_expired time a)) ∙ paced_pacing time a (has_come a.state.timers.pacing time) refl
+
+  outlived_cid : (time count : ℕ) (a : At t) (b : Bool) → has_come a.state.timers.push_new_cid time ≡ b → has_come (if b then wanted_anew time count (move_to Outlive a) else a).state.timers.push_new_cid time ≡ false
+  unfolding move_to state_move timers_move timers_outlived
+  outlived_cid time count a true h = ap (λ (v : Timers). has_come v.push_new_cid time) (wanted_left time count (move_to Outlive a) (is_open (move_to Outlive a).state.life.state))
+  outlived_cid time count a false h = h
+
+  cids_left : (time : ℕ) (a : At t) → has_come (ack_expired time (ids_expired time a)).state.timers.push_new_cid time ≡ false
+  unfolding ids_expired ack_expired timers_released
+  cids_left time a =
+      let b : At t = ids_expired time a in
+      ap (λ (x : Option ℕ). has_come x time) (released_left (λ (v : Timers). v.push_new_cid) (λ v. refl) b (has_come b.state.timers.max_ack_delay time))
+      ∙ outlived_cid time (asks_anew a.state.lower.ids) a (has_come a.state.timers.push_new_cid time) refl
 
   released_held : (time : ℕ) (a : At t) (b : Bool) → has_come a.state.timers.max_ack_delay time ≡ b → has_come (if b then move_to Release a else a).state.timers.max_ack_delay time ≡ false
   unfolding move_to state_move timers_move timers_released
@@ -205,15 +253,15 @@ module _ {t : Types} where
   held_left time a = released_held time a (has_come a.state.timers.max_ack_delay time) refl
 
   -- a timeout of a connection that hasn't ended
-  alive_is : (m : Meaning t) (time : ℕ) (a : At t) (b : Bool) → b ≡ false → (if b then a else ack_expired time (pacing_expired time (close_expired time (idle_expired time (loss_expired m time a))))) ≡ ack_expired time (pacing_expired time (close_expired time (idle_expired time (loss_expired m time a))))
+  alive_is : (m : Meaning t) (time : ℕ) (a : At t) (b : Bool) → b ≡ false → (if b then a else late time (close_expired time (idle_expired time (loss_expired m time a)))) ≡ late time (close_expired time (idle_expired time (loss_expired m time a)))
   alive_is m time a true alive = cc
   alive_is m time a false alive = refl
 
-  pub timeout_is : (m : Meaning t) (time : ℕ) (a : At t) → is_drained a.state.life.state ≡ false → timeout_after m time a ≡ ack_expired time (pacing_expired time (close_expired time (idle_expired time (loss_expired m time a))))
+  pub timeout_is : (m : Meaning t) (time : ℕ) (a : At t) → is_drained a.state.life.state ≡ false → timeout_after m time a ≡ late time (close_expired time (idle_expired time (loss_expired m time a)))
   unfolding timeout_after
   timeout_is m time a alive = alive_is m time a (is_drained a.state.life.state) alive
 
-  idle_stops : (m : Meaning t) (time : ℕ) (a : At t) → has_come (ack_expired time (pacing_expired time (close_expired time (idle_expired time (loss_expired m time a))))).state.timers.idle time ≡ false
+  idle_stops : (m : Meaning t) (time : ℕ) (a : At t) → has_come (late time (close_expired time (idle_expired time (loss_expired m time a)))).state.timers.idle time ≡ false
   unfolding idle_expired
   idle_stops m time a =
       let c : At t = loss_expired m time a in
@@ -233,4 +281,8 @@ module _ {t : Types} where
 
   pub held_later : (m : Meaning t) (time : ℕ) (a : At t) → is_drained a.state.life.state ≡ false → has_come (timeout_after m time a).state.timers.max_ack_delay time ≡ false
   held_later m time a alive =
-      ap (λ (x : At t). has_come x.state.timers.max_ack_delay time) (timeout_is m time a alive) ∙ held_left time (pacing_expired time (close_expired time (idle_expired time (loss_expired m time a))))
+      ap (λ (x : At t). has_come x.state.timers.max_ack_delay time) (timeout_is m time a alive) ∙ held_left time (ids_expired time (pacing_expired time (close_expired time (idle_expired time (loss_expired m time a)))))
+
+  pub cids_later : (m : Meaning t) (time : ℕ) (a : At t) → is_drained a.state.life.state ≡ false → has_come (timeout_after m time a).state.timers.push_new_cid time ≡ false
+  cids_later m time a alive =
+      ap (λ (x : At t). has_come x.state.timers.push_new_cid time) (timeout_is m time a alive) ∙ cids_left time (pacing_expired time (close_expired time (idle_expired time (loss_expired m time a))))

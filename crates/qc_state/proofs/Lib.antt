@@ -1,5 +1,10 @@
 pub mod Arrivals
 pub mod CryptoBytes
+pub mod DatagramSteps
+pub mod DatagramsTaken
+pub mod IdSteps
+pub mod IdsSettled
+pub mod IdsTaken
 pub mod KeptFrames
 pub mod AckLemmas
 pub mod Batches
@@ -8,6 +13,7 @@ pub mod Expansions
 pub mod Ends
 pub mod Expired
 pub mod FirstTaken
+pub mod OffersTaken
 pub mod OpenPackets
 pub mod PacketMoves
 pub mod Probed

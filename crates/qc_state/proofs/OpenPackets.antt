@@ -14,6 +14,7 @@ use Rattle.qc_frame.specs.FrameSpelling.{spelling}
 use Rattle.qc_frame.specs.Payload.{Item, items_of}
 use Rattle.qc_frame.specs.declared.fault.InvalidFrame.{InvalidFrame}
 use Rattle.qc_frame.specs.declared.frames.FrameOf.TheVariants as frames
+use Rattle.qc_frame.specs.declared.frames.NewConnectionId.{NewConnectionId}
 use Rattle.qc_state.specs.declared.coming.Coming.{Coming}
 use Rattle.qc_state.specs.declared.deeds.Did.{Did}
 use Rattle.qc_state.specs.declared.deeds.Did.TheVariants as did
@@ -26,11 +27,12 @@ use Rattle.qc_state.specs.declared.life.State.{State}
 use Rattle.qc_state.specs.declared.life.State.TheVariants as state
 use Rattle.qc_state.specs.declared.life.Life.{Life}
 use Rattle.qc_state.specs.Life.{rank_of, is_open, is_closed, is_over, life_drained, reason_given}
+use Rattle.qc_state.specs.Ids.{insert_stop, retire_stop, switches_for}
 use Rattle.qc_state.specs.Lower.{handed_stop, ready_bytes, session_read, stream_of}
-use Rattle.qc_state.specs.Moves.{Move, Arm, Forget, Enter, Accept, Fix, Give, Hand, Ack, Come, Read, Ready, Shut, Tell, PeerClosesToo, PeerCloses, Owe, move_to, state_move, numbers_move, keys_move, life_move, paths_move, timers_move, waiting_move, setup_move, lower_move, MayMove, accepts, enters, armed_after, armed_with}
+use Rattle.qc_state.specs.Moves.{Move, Arm, Forget, Enter, Accept, Fix, Give, Hand, Insert, Switch, Retire, Ack, Come, Read, Ready, Shut, Tell, PeerClosesToo, PeerCloses, Owe, move_to, state_move, numbers_move, keys_move, life_move, paths_move, timers_move, waiting_move, setup_move, lower_move, MayMove, accepts, enters, armed_after, armed_with}
 use Rattle.qc_state.specs.Numbers.{is_new_in, next_number}
 use Rattle.qc_state.specs.Progress.{progress_after}
-use Rattle.qc_state.specs.Receiving.{reason_of, signs_of, stop_in, is_close_item, is_eliciting_item, left_after, rearmed_after, settled_after, acked_after, confirmed_after, applied_after, close_given, closed_in_data, end_after, crypto_stop, items_after, payload_after, fixes_peer, fixed_after, read_for_close, admitted_after, verdict_after, received_after, accepted_after, Behind, Goes, Closes, Ends, Course, Reads, Ended, close_after, ended_by, answered_after, bytes_given, kept_after, frame_after, course_with, handed_after, refused_after}
+use Rattle.qc_state.specs.Receiving.{reason_of, signs_of, stop_in, is_close_item, is_eliciting_item, left_after, rearmed_after, settled_after, acked_after, confirmed_after, applied_after, close_given, closed_in_data, end_after, crypto_stop, items_after, payload_after, fixes_peer, fixed_after, read_for_close, admitted_after, verdict_after, received_after, accepted_after, Behind, Goes, Closes, Ends, Course, Reads, Ended, close_after, ended_by, answered_after, bytes_given, kept_after, frame_after, course_with, handed_after, inserted_after, refused_after, retired_after, switched_after}
 use Rattle.qc_state.specs.Paths.{is_blocked, path_kept}
 use Rattle.qc_state.specs.Recovering.{loss_time, settled_by}
 use Rattle.qc_state.specs.Sending.{drops_initial, initial_left}
@@ -40,7 +42,7 @@ use Rattle.qc_state.specs.Verdicts.{first_row, verdict_of}
 use Rattle.qc_state.specs.View.{View, At}
 use Rattle.qc_state.proofs.Ends.{given_by, stopped_by}
 use Rattle.qc_state.proofs.Progresses.{holds_progress}
-use Rattle.qc_state.proofs.PacketMoves.{Bytes, Empty, EndsWith, Fault, IsAmong, IsFrameOf, IsGivenTo, IsInPacket, IsProgress, IsReasonOf, IsTypedOf, Kind, OpenPacket, Handed, Refusal, Stops, progress_in_packet}
+use Rattle.qc_state.proofs.PacketMoves.{Bytes, Empty, EndsWith, Fault, IsAmong, IsFrameOf, IsGivenTo, IsInPacket, IsProgress, IsReasonOf, IsTypedOf, Kind, OpenPacket, Handed, Inserted, Refusal, Retired, Stops, progress_in_packet}
 use Rattle.qc_state.proofs.ReceivedMoves.{close_for}
 
 -- ---- what a verdict on a packet that opened says of the view
@@ -310,6 +312,39 @@ module _ {t : Types} (m : Meaning t) (o : OpenPacket) (R : At t → At t → Typ
   unfolding handed_after
   holds_handed f a h = handed_by f (handed_stop f a.state.lower) a h refl
 
+  -- a server may take the next id of the peer into use behind a NEW_CONNECTION_ID
+  switched_by : (new : NewConnectionId) (a : At t) (b : Bool) → IsFrameOf o (frames.NewConnectionId new) → R a (switched_after b a)
+  unfolding MayMove
+  switched_by new a true h = move Switch a (new, h) tt tt
+  switched_by new a false h = here a
+
+  -- the ids are handed one, which they take, or refuse
+  inserted_by : (new : NewConnectionId) (stop : Option TransportError) (switches : Bool) (a : At t) → IsFrameOf o (frames.NewConnectionId new) → insert_stop new a.state.lower.ids ≡ stop →
+      Leaves a (ended_by o.coming.time stop (λ b. Goes (switched_after switches b)) (move_to (Insert new) a))
+  unfolding MayMove move_to
+  inserted_by new None switches a h is =
+      let b : At t = move_to (Insert new) a in
+      next a b _ (move (Insert new) a h tt tt) (switched_by new b switches h)
+  inserted_by new (Some error) switches a h is =
+      let b : At t = move_to (Insert new) a in
+      next a b _ (move (Insert new) a h tt tt) (stopped error b (Inserted new h a.state refl is))
+
+  holds_inserted : (new : NewConnectionId) (a : At t) → IsFrameOf o (frames.NewConnectionId new) → Leaves a (inserted_after o.coming.time new a)
+  unfolding inserted_after
+  holds_inserted new a h = inserted_by new (insert_stop new a.state.lower.ids) (switches_for a.state.setup.fixed.side new a.state.lower.ids) a h refl
+
+  -- they are handed a RETIRE_CONNECTION_ID, which they take, or refuse
+  retired_by : (n : ℕ) (stop : Option TransportError) (a : At t) → IsFrameOf o (frames.RetireConnectionId n) → retire_stop n a.state.lower.ids ≡ stop → Leaves a (refused_after o.coming.time stop (move_to (Retire o.coming.time n) a))
+  unfolding MayMove move_to
+  retired_by n None a h is = move (Retire o.coming.time n) a (refl, h) tt tt
+  retired_by n (Some error) a h is =
+      let b : At t = move_to (Retire o.coming.time n) a in
+      next a b _ (move (Retire o.coming.time n) a (refl, h) tt tt) (stopped error b (Retired n h a.state refl is))
+
+  holds_retired : (n : ℕ) (a : At t) → IsFrameOf o (frames.RetireConnectionId n) → Leaves a (retired_after o.coming.time n a)
+  unfolding retired_after
+  holds_retired n a h = retired_by n (retire_stop n a.state.lower.ids) a h refl
+
   -- a frame that its kind doesn't stop
   holds_applied : (f : FrameValue) (a : At t) → (among : IsFrameOf o f) → GoesOn a.state among.0 f → Leaves a (applied_after m o.coming o.space f a)
   unfolding applied_after
@@ -329,6 +364,8 @@ module _ {t : Types} (m : Meaning t) (o : OpenPacket) (R : At t → At t → Typ
   holds_applied (frames.StreamDataBlocked stream limit) a h goes = holds_handed (frames.StreamDataBlocked stream limit) a h
   holds_applied (frames.StreamsBlocked dir limit) a h goes = holds_handed (frames.StreamsBlocked dir limit) a h
   holds_applied (frames.Datagram body) a h goes = holds_handed (frames.Datagram body) a h
+  holds_applied (frames.NewConnectionId new) a h goes = holds_inserted new a h
+  holds_applied (frames.RetireConnectionId sequence) a h goes = holds_retired sequence a h
   holds_applied _ a h goes = here a
 
   -- a frame

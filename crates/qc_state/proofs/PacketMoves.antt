@@ -13,6 +13,7 @@ use Rattle.qc_frame.specs.FrameSpelling.{spelling}
 use Rattle.qc_frame.specs.Payload.{Item, items_of}
 use Rattle.qc_frame.specs.declared.fault.InvalidFrame.{InvalidFrame}
 use Rattle.qc_frame.specs.declared.frames.FrameOf.TheVariants as frames
+use Rattle.qc_frame.specs.declared.frames.NewConnectionId.{NewConnectionId}
 use Rattle.qc_params.specs.declared.params.TransportParameters.{TransportParameters}
 use Rattle.qc_recovery.specs.Steps.{After}
 use Rattle.qc_state.specs.declared.coming.Coming.{Coming}
@@ -27,8 +28,9 @@ use Rattle.qc_state.specs.declared.life.ConnectionError.{ConnectionError}
 use Rattle.qc_state.specs.declared.life.ConnectionError.TheVariants as lost
 use Rattle.qc_state.specs.Keys.{NewKeys}
 use Rattle.qc_state.specs.Life.{is_handshake}
+use Rattle.qc_state.specs.Ids.{insert_stop, retire_stop}
 use Rattle.qc_state.specs.Lower.{handed_stop, ready_bytes, stream_of}
-use Rattle.qc_state.specs.Moves.{Move, Give, Forget, Enter, Accept, Fix, Ack, Arm, Come, Read, Write, Ready, Token, Learn, Want, Confirm, Establish, Tell, Hand, PeerClosesToo, PeerCloses, Owe, Shut, accepts, state_move}
+use Rattle.qc_state.specs.Moves.{Move, Give, Forget, Enter, Accept, Fix, Ack, Arm, Come, Read, Write, Ready, Token, Learn, Want, Confirm, Establish, Tell, Hand, Insert, Switch, Retire, PeerClosesToo, PeerCloses, Owe, Shut, accepts, state_move}
 use Rattle.qc_state.specs.Numbers.{next_number}
 use Rattle.qc_state.specs.Paths.{is_blocked}
 use Rattle.qc_state.specs.Progress.{ids_fit, is_end, keys_behind, session_behind}
@@ -139,7 +141,7 @@ module _ {t : Types} where
 
   -- this packet makes this end close for this error: it holds no frame, or bytes that are none; one of its frames stops it by its kind,
   -- or one of CRYPTO by its bytes; the session refused bytes that it was given, and is what it is behind them; one of its frames
-  -- was refused, with which the streams or the datagrams were just handed it; or the peer's parameters break a rule
+  -- was refused, with which the streams, the datagrams or the connection ids were just handed it; or the peer's parameters break a rule
   pub data Stops (m : Meaning t) (o : OpenPacket) (s : View t) (error : TransportError) : Type 0 where
     Empty : o.payload ≡ [] → error ≡ violation_at None → Stops m o s error
     Fault : (fault : InvalidFrame) → EndsWith fault (items_of o.payload) → error ≡ encoding_error_at fault.ty → Stops m o s error
@@ -147,6 +149,8 @@ module _ {t : Types} where
     Bytes : (offset : ℕ) → (body : List ℕ) → IsFrameOf o (frames.Crypto offset body) → crypto_stop s o.space offset body ≡ Some error → Stops m o s error
     Refusal : (bytes : List ℕ) → (session : t.S) → m.reads session bytes ≡ Err error → s.lower.session ≡ m.after_read session bytes → Stops m o s error
     Handed : (f : FrameValue) → IsFrameOf o f → (before : View t) → s ≡ state_move (Hand f) before → handed_stop f before.lower ≡ Some error → Stops m o s error
+    Inserted : (new : NewConnectionId) → IsFrameOf o (frames.NewConnectionId new) → (before : View t) → s ≡ state_move (Insert new) before → insert_stop new before.lower.ids ≡ Some error → Stops m o s error
+    Retired : (n : ℕ) → IsFrameOf o (frames.RetireConnectionId n) → (before : View t) → s ≡ state_move (Retire o.coming.time n) before → retire_stop n before.lower.ids ≡ Some error → Stops m o s error
     Parameters : Breaks m s error → Stops m o s error
 
   -- this end closes at this time for an error of which this holds
@@ -213,6 +217,9 @@ module _ {t : Types} where
   IsInPacket m o Ready s = Unit {0}
   IsInPacket m o (Tell d) s = IsToldOf o d s
   IsInPacket m o (Hand f) s = IsFrameOf o f
+  IsInPacket m o (Insert new) s = IsFrameOf o (frames.NewConnectionId new)
+  IsInPacket m o Switch s = (new : NewConnectionId) × IsFrameOf o (frames.NewConnectionId new)
+  IsInPacket m o (Retire time n) s = (time ≡ o.coming.time) × IsFrameOf o (frames.RetireConnectionId n)
   IsInPacket m o PeerClosesToo s = list_any is_close_item (items_of o.payload) ≡ true
   IsInPacket m o (PeerCloses time) s = (time ≡ o.coming.time) × ((why : ConnectionError) × IsReasonOf o why)
   IsInPacket m o Owe s = Unit {0}
@@ -240,6 +247,9 @@ module _ {t : Types} where
   in_packet_piece m o Establish s h = tt
   in_packet_piece m o (Tell d) s h = tt
   in_packet_piece m o (Hand f) s h = tt
+  in_packet_piece m o (Insert new) s h = tt
+  in_packet_piece m o Switch s h = tt
+  in_packet_piece m o (Retire time n) s h = tt
   in_packet_piece m o PeerClosesToo s h = tt
   in_packet_piece m o (PeerCloses time) s h = tt
   in_packet_piece m o Owe s h = tt

@@ -1,13 +1,15 @@
 -- What is kept as a probe is spent, frames wait again and a PING is asked for is kept as a packet is begun, which makes steps of the streams'
--- own; and a frame that is taken leaves its space as `without` says.
-use Rattle.std.proofs.Common.{◌≡◌, ◌==◌, List, [], ◌∷◌, ◌++◌, refl, ap, sym, ◌∙◌, Bool, true, false, if◌then◌else◌, Option, Some, None}
+-- and the ids' own; and a frame that is taken leaves its space as `without` says.
+use Rattle.std.proofs.Common.{◌≡◌, ◌==◌, List, [], ◌∷◌, refl, ap, sym, ◌∙◌, Bool, true, false, if◌then◌else◌, Option, Some, None}
 use Rattle.qc_base.specs.declared.side.SpaceId.{SpaceId}
 use Rattle.qc_base.specs.declared.side.SpaceId.TheVariants.{Initial, Handshake, «Data»}
 use Rattle.qc_flight.specs.declared.sent.SentPacket.{SentPacket}
 use Rattle.qc_frame.specs.Frame.{FrameValue}
 use Rattle.qc_state.specs.Moves.{Begin, Take, state_move, numbers_move, keys_move, life_move, paths_move, timers_move, waiting_move, setup_move, lower_move}
-use Rattle.qc_state.specs.Lower.{streams_stepped}
-use Rattle.qc_state.specs.Offers.{again_steps, begun_steps, oldest_in, packet_again, packet_begun, probe_begun, probe_sent, probe_steps, streams_filed, wants_sending, with_ping}
+use Rattle.qc_cids.specs.Steps as ids
+use Rattle.qc_state.specs.Ids.{again_ids, lost_cids}
+use Rattle.qc_state.specs.Lower.{ids_stepped, streams_stepped}
+use Rattle.qc_state.specs.Offers.{again_steps, begun_ids, begun_steps, oldest_in, packet_again, packet_begun, probe_begun, probe_ids, probe_sent, probe_steps, streams_filed, wants_sending, with_ping}
 use Rattle.qc_state.specs.Spaces.{space_of}
 use Rattle.qc_state.specs.StreamFrames.{filed_steps, packet_lost}
 use Rattle.qc_state.specs.Types.{Types}
@@ -34,7 +36,7 @@ module _ {t : Types} where
   again_only id oldest s v true h = h
   again_only id None s v false h = h
   again_only id (Some packet) s v false h =
-      ap (λ (x : View t). record x { waiting = frames_again v.waiting id packet.frames; lower = streams_stepped (packet_lost packet) v.lower }) h
+      ap (λ (x : View t). record x { waiting = frames_again v.waiting id packet.frames; lower = ids_stepped (lost_cids packet.frames) (streams_stepped (packet_lost packet) v.lower) }) h
 
   ping_only : (id : SpaceId) (s v : View t) (b : Bool) → v ≡ record s { waiting = v.waiting; lower = v.lower } →
       (if b then v else record v { waiting = ping_asked v.waiting id })
@@ -69,11 +71,11 @@ module _ {t : Types} where
   unfolding packet_begun probe_begun state_move numbers_move keys_move life_move paths_move timers_move waiting_move setup_move lower_move
   begun_is id opens s = filed_only id s (probe_begun id opens s) (begun_only id opens s ((space_of s.waiting.spaces id).probes == 0))
 
-  -- ---- what it makes of the streams, and that it leaves the other layers below
+  -- ---- what it makes of the streams and of the ids, and that it leaves the other layers below
 
   again_steps_so : (id : SpaceId) (oldest : Option SentPacket) (s : View t) (b : Bool) →
-      (if b then s else packet_again id oldest s).lower ≡ streams_stepped (if b then [] else again_steps oldest) s.lower
-  unfolding streams_stepped after
+      (if b then s else packet_again id oldest s).lower ≡ ids_stepped (if b then [] else again_ids oldest) (streams_stepped (if b then [] else again_steps oldest) s.lower)
+  unfolding streams_stepped ids_stepped after ids.after
   again_steps_so id oldest s true = refl
   again_steps_so id None s false = refl
   again_steps_so id (Some packet) s false = refl
@@ -82,8 +84,8 @@ module _ {t : Types} where
   ping_stays id s true = refl
   ping_stays id s false = refl
 
-  probed_steps : (id : SpaceId) (s : View t) → (probe_sent id s).lower ≡ streams_stepped (probe_steps id s) s.lower
-  unfolding probe_sent with_ping probe_steps
+  probed_steps : (id : SpaceId) (s : View t) → (probe_sent id s).lower ≡ ids_stepped (probe_ids id s) (streams_stepped (probe_steps id s) s.lower)
+  unfolding probe_sent with_ping probe_steps probe_ids
   probed_steps id s =
       let x : View t = if wants_sending s id then s else packet_again id (oldest_in s id) s in
       ping_stays id x (wants_sending x id) ∙ again_steps_so id (oldest_in s id) s (wants_sending s id)
@@ -92,20 +94,23 @@ module _ {t : Types} where
   spent_stays id true s = refl
   spent_stays id false s = refl
 
-  begun_steps_by : (id : SpaceId) (opens : Bool) (s : View t) (b : Bool) → (if b then s else probe_sent id (spent_if opens id s)).lower ≡ streams_stepped (if b then [] else probe_steps id (spent_if opens id s)) s.lower
-  unfolding streams_stepped after
+  begun_steps_by : (id : SpaceId) (opens : Bool) (s : View t) (b : Bool) → (if b then s else probe_sent id (spent_if opens id s)).lower
+      ≡ ids_stepped (if b then [] else probe_ids id (spent_if opens id s)) (streams_stepped (if b then [] else probe_steps id (spent_if opens id s)) s.lower)
+  unfolding streams_stepped ids_stepped after ids.after
   begun_steps_by id opens s true = refl
   begun_steps_by id opens s false =
-      probed_steps id (spent_if opens id s) ∙ ap (λ (l : Lower t.S). record l { streams = after (probe_steps id (spent_if opens id s)) l.streams }) (spent_stays id opens s)
+      probed_steps id (spent_if opens id s)
+      ∙ ap (λ (l : Lower t.S). record l { streams = after (probe_steps id (spent_if opens id s)) l.streams; ids = ids.after (probe_ids id (spent_if opens id s)) l.ids }) (spent_stays id opens s)
 
-  -- a packet that is begun makes these steps of the streams, and leaves all else below as it was
-  pub begun_streams : (id : SpaceId) (opens : Bool) (s : View t) → (packet_begun id opens s).lower ≡ streams_stepped (begun_steps id opens s) s.lower
-  unfolding packet_begun probe_begun streams_filed begun_steps streams_stepped
+  -- a packet that is begun makes these steps of the streams and of the ids, and leaves all else below as it was
+  pub begun_streams : (id : SpaceId) (opens : Bool) (s : View t) → (packet_begun id opens s).lower ≡ ids_stepped (begun_ids id opens s) (streams_stepped (begun_steps id opens s) s.lower)
+  unfolding packet_begun probe_begun streams_filed begun_steps begun_ids streams_stepped ids_stepped
   begun_streams id opens s =
       let b : Bool = (space_of s.waiting.spaces id).probes == 0 in
       let xs : List Step = if b then [] else probe_steps id (spent_if opens id s) in
+      let zs : List ids.Step = if b then [] else probe_ids id (spent_if opens id s) in
       ap (λ (l : Lower t.S). record l { streams = after (filed_steps id) l.streams }) (begun_steps_by id opens s b)
-      ∙ ap (λ (x : StreamsState). record s.lower { streams = x }) (sym (after_append xs (filed_steps id) s.lower.streams))
+      ∙ ap (λ (x : StreamsState). record s.lower { streams = x; ids = ids.after zs s.lower.ids }) (sym (after_append xs (filed_steps id) s.lower.streams))
 
 module _ {t : Types} (P : Waiting → Type 0) (spent : (w : Waiting) (id : SpaceId) → P w → P (probe_spent w id)) (again : (w : Waiting) (id : SpaceId) (fs : List FrameValue) → P w → P (frames_again w id fs))
     (asked : (w : Waiting) (id : SpaceId) → P w → P (ping_asked w id)) where

@@ -1,6 +1,6 @@
 -- What holds of each move by which the handshake goes on behind the frames of a packet, holds of that.
 use Rattle.std.proofs.Common.{◌≡◌, ℕ, ◌<◌, List, length, refl, ap, sym, ◌∙◌, subst, Bool, true, false, Option, Some, None, if◌then◌else◌, arith}
-use Rattle.std.specs.Prelude.{zero, suc, ◌-◌, ◌==◌, min, ◌&&◌, Result, Ok, Err}
+use Rattle.std.specs.Prelude.{zero, suc, ◌-◌, ◌==◌, ◌&&◌, Result, Ok, Err}
 use Rattle.qc_base.specs.declared.transport_error.TransportError.{TransportError}
 use Rattle.qc_base.specs.declared.side.Side.{Side}
 use Rattle.qc_base.specs.declared.side.Side.TheVariants.{Client, Server}
@@ -15,7 +15,8 @@ use Rattle.qc_state.specs.declared.life.State.TheVariants as state
 use Rattle.qc_state.specs.declared.lower.Lower.{Lower}
 use Rattle.qc_state.specs.Life.{rank_of, is_handshake, token_learned, identifiers_wanted}
 use Rattle.qc_state.specs.Moves.{Move, Arm, Forget, Give, Shut, Write, Token, Learn, Want, Confirm, Establish, move_to, state_move, life_move, lower_move, paths_move, setup_move, MayMove, AreNext, armed_after, armed_with}
-use Rattle.qc_state.specs.Lower.{flight_dropped, limits_learned, streams_stepped}
+use Rattle.qc_state.specs.Ids.{active_limit}
+use Rattle.qc_state.specs.Lower.{flight_dropped, ids_stepped, limits_learned, streams_stepped}
 use Rattle.qc_state.specs.Paths.{is_blocked}
 use Rattle.qc_state.specs.Progress.{keys_behind, ring_with, session_behind, is_written, write_after, writes_after, written_after, ids_fit, ids_fit_for, token_after, learned_with, parameters_and, is_end, ended_after, progress_after, learned_after, over_after}
 use Rattle.qc_state.specs.Recovering.{loss_time}
@@ -81,19 +82,19 @@ module _ {t : Types} where
   wanted_state time count a true = refl
   wanted_state time count a false = refl
 
-  wanted_lower : (time count : ℕ) (a : At t) (b : Bool) → (if b then a else move_to (Want time count) a).state.lower ≡ a.state.lower
-  unfolding move_to state_move lower_move
-  wanted_lower time count a true = refl
-  wanted_lower time count a false = refl
+  wanted_session : (time count : ℕ) (a : At t) (b : Bool) → (if b then a else move_to (Want time count) a).state.lower.session ≡ a.state.lower.session
+  unfolding move_to state_move lower_move ids_stepped
+  wanted_session time count a true = refl
+  wanted_session time count a false = refl
 
   -- and so do parameters that count
   known_session : (time : ℕ) (p : TransportParameters) (a : At t) → (learned_with time p a).state.lower.session ≡ a.state.lower.session
-  unfolding learned_with move_to state_move lower_move limits_learned streams_stepped
-  known_session time p a = ap (λ (l : Lower t.S). l.session) (wanted_lower time (min p.active_connection_id_limit 8 - 1) (move_to (Learn p) a) (length a.state.setup.fixed.local_cid == 0))
+  unfolding learned_with move_to state_move lower_move limits_learned streams_stepped ids_stepped
+  known_session time p a = wanted_session time (active_limit (Some p) - a.state.lower.ids.local.issued) (move_to (Learn p) a) (length a.state.setup.fixed.local_cid == 0)
 
   known_state : (time : ℕ) (p : TransportParameters) (a : At t) → (learned_with time p a).state.life.state ≡ a.state.life.state
   unfolding learned_with move_to state_move life_move
-  known_state time p a = wanted_state time (min p.active_connection_id_limit 8 - 1) (move_to (Learn p) a) (length a.state.setup.fixed.local_cid == 0)
+  known_state time p a = wanted_state time (active_limit (Some p) - a.state.lower.ids.local.issued) (move_to (Learn p) a) (length a.state.setup.fixed.local_cid == 0)
 
 -- what holds of no move, of two moves one after the other, and of each move by which the handshake goes on behind the frames of a packet
 -- of this space, where it may be made
@@ -153,7 +154,7 @@ module _ {t : Types} (m : Meaning t) (time : ℕ) (space : SpaceId) (R : At t �
   unfolding learned_with MayMove
   holds_known p a known =
       let b : At t = move_to (Learn p) a in
-      next a b _ (move (Learn p) a known tt) (wanted_by (min p.active_connection_id_limit 8 - 1) b (length a.state.setup.fixed.local_cid == 0))
+      next a b _ (move (Learn p) a known tt) (wanted_by (active_limit (Some p) - a.state.lower.ids.local.issued) b (length a.state.setup.fixed.local_cid == 0))
 
   -- parameters whose ids fit are known, and others stop the packet
   fit_by : (p : TransportParameters) (others : At t → At t) (a : At t) (b : Bool) → m.parameters a.state.lower.session ≡ Ok (Some p) → ids_fit a.state p ≡ b → R (learned_with time p a) (others (learned_with time p a)) →

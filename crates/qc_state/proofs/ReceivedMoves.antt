@@ -15,7 +15,7 @@ use Rattle.qc_state.specs.declared.life.ConnectionError.{ConnectionError}
 use Rattle.qc_state.specs.declared.life.ConnectionError.TheVariants as lost
 use Rattle.qc_state.specs.declared.life.State.TheVariants.{Drained}
 use Rattle.qc_state.specs.Keys.{NewKeys, NoKeys, HandshakeKeys, DataKeys}
-use Rattle.qc_state.specs.Moves.{Move, Give, Forget, Enter, Expect, Fail, Accept, Fix, Hear, Ack, Arm, Come, Read, Write, Ready, Token, Learn, Want, Confirm, Establish, Tell, Hand, PeerClosesToo, PeerCloses, Owe, Shut, Raise, accepts}
+use Rattle.qc_state.specs.Moves.{Move, Give, Forget, Enter, Expect, Fail, Accept, Fix, Hear, Ack, Arm, Come, Read, Write, Ready, Token, Learn, Want, Confirm, Establish, Tell, Hand, Insert, Switch, Retire, PeerClosesToo, PeerCloses, Owe, Shut, Raise, accepts}
 use Rattle.qc_state.specs.Paths.{is_blocked}
 use Rattle.qc_state.specs.Progress.{ring_with, keys_behind}
 use Rattle.qc_state.specs.Recovering.{loss_time}
@@ -70,6 +70,9 @@ IsOfPiece Confirm = Unit {0}
 IsOfPiece Establish = Unit {0}
 IsOfPiece (Tell d) = Unit {0}
 IsOfPiece (Hand f) = Unit {0}
+IsOfPiece (Insert new) = Unit {0}
+IsOfPiece Switch = Unit {0}
+IsOfPiece (Retire time n) = Unit {0}
 IsOfPiece PeerClosesToo = Unit {0}
 IsOfPiece (PeerCloses time) = Unit {0}
 IsOfPiece Owe = Unit {0}

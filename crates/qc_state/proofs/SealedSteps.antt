@@ -5,7 +5,7 @@ use Rattle.qc_base.specs.declared.side.SpaceId.TheVariants.{Initial, Handshake, 
 use Rattle.qc_frame.specs.Frame.{FrameValue}
 use Rattle.qc_frame.specs.declared.frames.FrameOf.TheVariants as frames
 use Rattle.qc_streams.specs.Carried.{IsAnswered}
-use Rattle.qc_streams.specs.Steps.{AllMay, IsSealedSo, MayStep}
+use Rattle.qc_streams.specs.Steps.{AllMay, IsSealedSo}
 use Rattle.qc_streams.specs.Waits.{IsPossible, Step, after}
 use Rattle.qc_streams.specs.Within.{IsTaken}
 use Rattle.qc_streams.specs.declared.state.StreamsState.{StreamsState}
@@ -14,7 +14,7 @@ use Rattle.qc_state.specs.Acks.{AckPart, may_acknowledge}
 use Rattle.qc_state.specs.Allowed.{WaitAll, Waits}
 use Rattle.qc_state.specs.Forms.{number_space}
 use Rattle.qc_state.specs.Life.{is_closed}
-use Rattle.qc_state.specs.Lower.{streams_stepped}
+use Rattle.qc_state.specs.Lower.{datagrams_stepped, frames_sealed, ids_stepped, streams_stepped}
 use Rattle.qc_state.specs.Moves.{Take, lower_move, state_move}
 use Rattle.qc_state.specs.Sending.{Carries, Closes, application_close, close_frame, closing_frame, padded, padding_of, told_close}
 use Rattle.qc_state.specs.StreamFrames.{sealed_step, sealed_steps}
@@ -62,7 +62,7 @@ sealed_closing id kept false c = refl
 
 -- ---- that they may be made
 
-none_may : (fs : List FrameValue) (s : StreamsState) → sealed_steps fs ≡ [] → AllMay (sealed_steps fs) s
+pub none_may : (fs : List FrameValue) (s : StreamsState) → sealed_steps fs ≡ [] → AllMay (sealed_steps fs) s
 unfolding AllMay
 none_may fs s none = subst (λ (xs : List Step). AllMay xs s) (sym none) tt
 
@@ -88,7 +88,7 @@ module _ {t : Types} where
 
   -- what one that is taken leaves of the streams
   taken_streams : (id : SpaceId) (f : FrameValue) (s : View t) → (state_move (Take id (f ∷ [])) s).lower.streams ≡ after (sealed_step f) s.lower.streams
-  unfolding state_move lower_move streams_stepped sealed_steps
+  unfolding state_move lower_move frames_sealed streams_stepped datagrams_stepped ids_stepped sealed_steps
   taken_streams id f s = ap (λ (xs : List Step). after xs s.lower.streams) (append-nil (sealed_step f))
 
   -- so may frames that wait, each as its turn comes

@@ -1,6 +1,5 @@
 -- The frames of streams that this end takes: each is one of their steps that may be, and they fit into the room.
 use Rattle.std.proofs.Common.{◌≡◌, ℕ, ◌+◌, ◌-◌, ◌%◌, ◌<◌, ◌≤◌, List, [], ◌∷◌, ◌++◌, length, refl, ap, sym, ◌∙◌, subst, Bool, true, false, nat_le, nat_lt, ◌&&◌, ◌==◌, if◌then◌else◌, Option, None, Some, arith, length-append}
-use Rattle.std.specs.Prelude.{Result, Ok, Err, IfOk}
 use Rattle.std.specs.Option.{option_map, is_some}
 use Rattle.std.proofs.lemmas.Bool.Decides.{nat_tests}
 use Rattle.std.proofs.lemmas.Grind.{flat_map-append}
@@ -42,7 +41,7 @@ are_append in_data [] gs are behind = behind
 are_append in_data (f ∷ fs) gs are behind = (are.0, are.1, are.2, are_append in_data fs gs are.3 behind)
 
 -- the bytes of joined frames are those of both
-spelled_append : (fs gs : List FrameValue) → length (frames_spelling (fs ++ gs)) ≡ length (frames_spelling fs) + length (frames_spelling gs)
+pub spelled_append : (fs gs : List FrameValue) → length (frames_spelling (fs ++ gs)) ≡ length (frames_spelling fs) + length (frames_spelling gs)
 spelled_append fs gs = ap length (flat_map-append spelling fs gs) ∙ length-append (frames_spelling fs) (frames_spelling gs)
 
 -- nothing is taken
@@ -63,13 +62,6 @@ takes_both in_data room left left' s s1 s2 fs gs hs first behind =
       list = behind.list ∙ ap (λ (x : List FrameValue). x ++ behind.own) first.list ∙ append_assoc fs first.own behind.own;
       fits = omega (arith, spelled_append first.own behind.own, first.fits, behind.fits);
     }
-
--- the same, of the answers of the calls that take them
-pub takes_behind : {E : Type 0} (in_data : Bool) (room left : ℕ) (s s1 s2 : StreamsState) (fs gs hs : List FrameValue) (r : Result ℕ E) → in_data ≡ true → TakesStreams true room s s1 fs gs left →
-    IfOk r (λ n. TakesStreams true left s1 s2 gs hs n) → IfOk r (λ n. TakesStreams in_data room s s2 fs hs n)
-takes_behind in_data room left s s1 s2 fs gs hs (Ok n) is first behind =
-    subst (λ (b : Bool). TakesStreams b room s s2 fs hs n) (sym is) (takes_both true room left n s s1 s2 fs gs hs first behind)
-takes_behind in_data room left s s1 s2 fs gs hs (Err e) is first behind = tt
 
 -- a frame is taken
 takes_step : (room left : ℕ) (s s' : StreamsState) (fs gs : List FrameValue) (f : FrameValue) (x : Step) → is_streams_frame f ≡ true → Fits f → sealed_step f ≡ x ∷ [] → MayStep x s → s' ≡ after_step x s → gs ≡ fs ++ f ∷ [] →

@@ -10,13 +10,23 @@ use Rattle.qc_path.specs.Acks.{PendingValues}
 use Rattle.qc_send_stream.specs.Buffer.{Buffer, range_sealed}
 use Rattle.qc_state.specs.Acks.{AckPart, SaysAck, ack_sent, is_ack_first, is_ack_last}
 use Rattle.qc_state.specs.StreamFrames.{sealed_steps}
-use Rattle.qc_state.specs.Taking.{AreOfStreams, CryptoPart, TakenPart, TakesAck, TakesCrypto, TakesStreams, marks_part, done_part, ping_part, room_behind}
+use Rattle.qc_cids.specs.Steps as ids
+use Rattle.qc_cids.specs.declared.connection_ids.ConnectionIds.{ConnectionIds}
+use Rattle.qc_datagrams.specs.Steps as datagrams
+use Rattle.qc_datagrams.specs.declared.datagrams.Datagrams.{Datagrams}
+use Rattle.qc_state.specs.Datagrams.{AllOldest, sealed_datagrams}
+use Rattle.qc_state.specs.Ids.{AllNext, sealed_cids}
+use Rattle.qc_state.specs.Lower.{frames_sealed}
+use Rattle.qc_state.specs.Taking.{AreOffered, CryptoPart, TakenPart, TakesAck, TakesCrypto, TakesOffered, marks_part, done_part, ping_part, room_behind}
 use Rattle.qc_state.specs.Waiting.{StartsWith, crypto_waits, without, without_all}
+use Rattle.qc_state.specs.declared.lower.Lower.{Lower}
 use Rattle.qc_state.specs.declared.waiting.SpaceWaiting.{SpaceWaiting}
 use Rattle.qc_state.proofs.AckLemmas.{none_due, not_both, part_same}
+use Rattle.qc_state.proofs.DatagramSteps.{behind_none, datagrams_ack, datagrams_append, none_before, none_behind, oldest_first}
+use Rattle.qc_state.proofs.IdSteps.{behind_no_cid, cids_ack, cids_append, next_first, no_cid_before, no_cid_behind}
+use Rattle.qc_state.proofs.OffersTaken.{sealed_same}
 use Rattle.qc_state.proofs.SealedSteps.{sealed_ack, sealed_append}
 use Rattle.qc_streams.specs.Waits.{Step}
-use Rattle.qc_streams.specs.declared.state.StreamsState.{StreamsState}
 
 -- what waits once joined lists are sealed
 append_left : (w : SpaceWaiting) (fs gs : List FrameValue) → without_all w (fs ++ gs) ≡ without_all (without_all w fs) gs
@@ -106,23 +116,26 @@ parts_list w fs0 fs1 fs2 fs3 fs4 fs5 acks crypto own last is_fs0 is_fs1 is_fs2 i
     is_fs5 ∙ ap (λ (x : List FrameValue). x ++ last) is_fs4 ∙ ap (λ (x : List FrameValue). (x ++ own) ++ last) is_fs3 ∙ ap (λ (x : List FrameValue). ((x ++ crypto) ++ own) ++ last) is_fs2
     ∙ ap (λ (x : List FrameValue). (((x ++ acks) ++ crypto) ++ own) ++ last) (is_fs1 ∙ ap (λ (x : List FrameValue). x ++ marks_part w) is_fs0) ∙ simp append_assoc
 
--- frames of the streams leave what waits in a space
-pub streams_stay : (b : Bool) (w : SpaceWaiting) (fs : List FrameValue) → AreOfStreams b fs → without_all w fs ≡ w
+-- frames that the layers below offer leave what waits in a space
+pub offered_stays : (b : Bool) (w : SpaceWaiting) (fs : List FrameValue) → AreOffered b fs → without_all w fs ≡ w
 unfolding without_all without
-streams_stay b w [] h = refl
-streams_stay b w (frames.Stream id offset fin body ∷ fs) h = streams_stay b w fs h.3
-streams_stay b w (frames.ResetStream id code size ∷ fs) h = streams_stay b w fs h.3
-streams_stay b w (frames.StopSending id code ∷ fs) h = streams_stay b w fs h.3
-streams_stay b w (frames.MaxData limit ∷ fs) h = streams_stay b w fs h.3
-streams_stay b w (frames.MaxStreamData id limit ∷ fs) h = streams_stay b w fs h.3
-streams_stay b w (frames.MaxStreams dir limit ∷ fs) h = streams_stay b w fs h.3
-streams_stay b w (_ ∷ fs) h = cc
+offered_stays b w [] h = refl
+offered_stays b w (frames.Stream id offset fin body ∷ fs) h = offered_stays b w fs h.3
+offered_stays b w (frames.ResetStream id code size ∷ fs) h = offered_stays b w fs h.3
+offered_stays b w (frames.StopSending id code ∷ fs) h = offered_stays b w fs h.3
+offered_stays b w (frames.MaxData limit ∷ fs) h = offered_stays b w fs h.3
+offered_stays b w (frames.MaxStreamData id limit ∷ fs) h = offered_stays b w fs h.3
+offered_stays b w (frames.MaxStreams dir limit ∷ fs) h = offered_stays b w fs h.3
+offered_stays b w (frames.Datagram body ∷ fs) h = offered_stays b w fs h.3
+offered_stays b w (frames.NewConnectionId new ∷ fs) h = offered_stays b w fs h.3
+offered_stays b w (frames.RetireConnectionId sequence ∷ fs) h = offered_stays b w fs h.3
+offered_stays b w (_ ∷ fs) h = cc
 
 -- what is left once all parts were taken
-pub without_parts : (time room rest more left len len' : ℕ) (due due' in_data : Bool) (w w1 w2 w3 w4 : SpaceWaiting) (fs0 fs1 fs2 fs3 fs4 fs5 : List FrameValue) (s s' : StreamsState) →
+pub without_parts : {S : Type 0} (time room rest more left len len' : ℕ) (due due' in_data : Bool) (w w1 w2 w3 w4 : SpaceWaiting) (fs0 fs1 fs2 fs3 fs4 fs5 : List FrameValue) (l l' : Lower S) →
     fs0 ≡ [] → fs1 ≡ fs0 ++ marks_part w → w1 ≡ without_all w (marks_part w) → TakesAck time due room w1 w2 fs1 fs2 len →
-    TakesCrypto rest w2 w3 fs2 fs3 more → TakesStreams in_data more s s' fs3 fs4 left → TakesAck time due' left w3 w4 fs4 fs5 len' → w4 ≡ without_all w fs5
-without_parts time room rest more left len len' due due' in_data w w1 w2 w3 w4 fs0 fs1 fs2 fs3 fs4 fs5 s s' is_fs0 is_fs1 is_w1 takes crypto streams bundle =
+    TakesCrypto rest w2 w3 fs2 fs3 more → TakesOffered in_data more l l' fs3 fs4 left → TakesAck time due' left w3 w4 fs4 fs5 len' → w4 ≡ without_all w fs5
+without_parts time room rest more left len len' due due' in_data w w1 w2 w3 w4 fs0 fs1 fs2 fs3 fs4 fs5 l l' is_fs0 is_fs1 is_w1 takes crypto streams bundle =
     let all : fs5 ≡ marks_part w ++ (takes.acks ++ (crypto.frames ++ (streams.own ++ bundle.acks))) =
     parts_list w fs0 fs1 fs2 fs3 fs4 fs5 takes.acks crypto.frames streams.own bundle.acks is_fs0 is_fs1 takes.list crypto.list streams.list bundle.list in
     let w_acks : SpaceWaiting = without_all (without_all w (marks_part w)) takes.acks in
@@ -132,7 +145,7 @@ without_parts time room rest more left len len' due due' in_data w w1 w2 w3 w4 f
     let together : without_all w fs5 ≡ without_all w_crypto bundle.acks =
     ap (λ (fs : List FrameValue). without_all w fs) all ∙ append_left w (marks_part w) (takes.acks ++ (crypto.frames ++ (streams.own ++ bundle.acks)))
     ∙ append_left (without_all w (marks_part w)) takes.acks (crypto.frames ++ (streams.own ++ bundle.acks)) ∙ append_left w_acks crypto.frames (streams.own ++ bundle.acks)
-    ∙ append_left w_crypto streams.own bundle.acks ∙ ap (λ (x : SpaceWaiting). without_all x bundle.acks) (streams_stay in_data w_crypto streams.own streams.are) in
+    ∙ append_left w_crypto streams.own bundle.acks ∙ ap (λ (x : SpaceWaiting). without_all x bundle.acks) (offered_stays in_data w_crypto streams.own streams.are) in
     behind ∙ sym together
 
 -- ---- the steps of the streams
@@ -156,7 +169,7 @@ crypto_steps w room [] h = refl
 crypto_steps w room (frames.Crypto offset body ∷ fs) h = crypto_steps (without w (frames.Crypto offset body)) _ fs h.2
 crypto_steps w room (_ ∷ fs) h = absurd h
 
--- so the frames of a packet are those of the frames of the streams among them
+-- so the steps of a packet are those of the offered frames among them
 steps_by : (marks acks crypto own last : List FrameValue) → sealed_steps marks ≡ [] → sealed_steps acks ≡ [] → sealed_steps crypto ≡ [] → sealed_steps last ≡ [] →
     sealed_steps (marks ++ (acks ++ (crypto ++ (own ++ last)))) ≡ sealed_steps own
 steps_by marks acks crypto own last no_marks no_acks no_crypto no_last =
@@ -165,13 +178,121 @@ steps_by marks acks crypto own last no_marks no_acks no_crypto no_last =
     ∙ sealed_append crypto (own ++ last) ∙ ap (λ (xs : List Step). xs ++ sealed_steps (own ++ last)) no_crypto
     ∙ sealed_append own last ∙ ap (λ (xs : List Step). sealed_steps own ++ xs) no_last ∙ append-nil (sealed_steps own)
 
-pub parts_steps : (time room rest more left len len' : ℕ) (due due' in_data : Bool) (w w1 w2 w3 w4 : SpaceWaiting) (fs0 fs1 fs2 fs3 fs4 fs5 : List FrameValue) (s s' : StreamsState) →
-    fs0 ≡ [] → fs1 ≡ fs0 ++ marks_part w → TakesAck time due room w1 w2 fs1 fs2 len → TakesCrypto rest w2 w3 fs2 fs3 more → (streams : TakesStreams in_data more s s' fs3 fs4 left) →
+pub parts_steps : {S : Type 0} (time room rest more left len len' : ℕ) (due due' in_data : Bool) (w w1 w2 w3 w4 : SpaceWaiting) (fs0 fs1 fs2 fs3 fs4 fs5 : List FrameValue) (l l' : Lower S) →
+    fs0 ≡ [] → fs1 ≡ fs0 ++ marks_part w → TakesAck time due room w1 w2 fs1 fs2 len → TakesCrypto rest w2 w3 fs2 fs3 more → (streams : TakesOffered in_data more l l' fs3 fs4 left) →
     TakesAck time due' left w3 w4 fs4 fs5 len' → sealed_steps fs5 ≡ sealed_steps streams.own
-parts_steps time room rest more left len len' due due' in_data w w1 w2 w3 w4 fs0 fs1 fs2 fs3 fs4 fs5 s s' is_fs0 is_fs1 takes crypto streams bundle =
+parts_steps time room rest more left len len' due due' in_data w w1 w2 w3 w4 fs0 fs1 fs2 fs3 fs4 fs5 l l' is_fs0 is_fs1 takes crypto streams bundle =
     ap sealed_steps (parts_list w fs0 fs1 fs2 fs3 fs4 fs5 takes.acks crypto.frames streams.own bundle.acks is_fs0 is_fs1 takes.list crypto.list streams.list bundle.list)
     ∙ steps_by (marks_part w) takes.acks crypto.frames streams.own bundle.acks (marks_steps w) (sealed_ack time room w1 takes.acks due takes.part) (crypto_steps w2 rest crypto.frames crypto.part)
     (sealed_ack time left w3 bundle.acks due' bundle.part)
+
+-- ---- the steps of the datagrams
+
+marks_datagrams_by : (a b : Bool) → sealed_datagrams ((if a then HandshakeDone ∷ [] else []) ++ (if b then Ping ∷ [] else [])) ≡ []
+unfolding sealed_datagrams
+marks_datagrams_by true true = refl
+marks_datagrams_by true false = refl
+marks_datagrams_by false true = refl
+marks_datagrams_by false false = refl
+
+marks_datagrams : (w : SpaceWaiting) → sealed_datagrams (marks_part w) ≡ []
+unfolding marks_part done_part ping_part
+marks_datagrams w = marks_datagrams_by w.done w.ping
+
+crypto_datagrams : (w : SpaceWaiting) (room : ℕ) (fs : List FrameValue) → CryptoPart w room fs → sealed_datagrams fs ≡ []
+unfolding sealed_datagrams CryptoPart
+crypto_datagrams w room [] h = refl
+crypto_datagrams w room (frames.Crypto offset body ∷ fs) h = crypto_datagrams (without w (frames.Crypto offset body)) _ fs h.2
+crypto_datagrams w room (_ ∷ fs) h = absurd h
+
+-- so those of a packet are those of the offered frames among them
+datagrams_by : (marks acks crypto own last : List FrameValue) → sealed_datagrams marks ≡ [] → sealed_datagrams acks ≡ [] → sealed_datagrams crypto ≡ [] → sealed_datagrams last ≡ [] →
+    sealed_datagrams (marks ++ (acks ++ (crypto ++ (own ++ last)))) ≡ sealed_datagrams own
+datagrams_by marks acks crypto own last no_marks no_acks no_crypto no_last =
+    datagrams_append marks (acks ++ (crypto ++ (own ++ last))) ∙ ap (λ (xs : List datagrams.Step). xs ++ sealed_datagrams (acks ++ (crypto ++ (own ++ last)))) no_marks
+    ∙ datagrams_append acks (crypto ++ (own ++ last)) ∙ ap (λ (xs : List datagrams.Step). xs ++ sealed_datagrams (crypto ++ (own ++ last))) no_acks
+    ∙ datagrams_append crypto (own ++ last) ∙ ap (λ (xs : List datagrams.Step). xs ++ sealed_datagrams (own ++ last)) no_crypto
+    ∙ datagrams_append own last ∙ ap (λ (xs : List datagrams.Step). sealed_datagrams own ++ xs) no_last ∙ append-nil (sealed_datagrams own)
+
+parts_datagrams : {S : Type 0} (time room rest more left len len' : ℕ) (due due' in_data : Bool) (w w1 w2 w3 w4 : SpaceWaiting) (fs0 fs1 fs2 fs3 fs4 fs5 : List FrameValue) (l l' : Lower S) →
+    fs0 ≡ [] → fs1 ≡ fs0 ++ marks_part w → TakesAck time due room w1 w2 fs1 fs2 len → TakesCrypto rest w2 w3 fs2 fs3 more → (own : TakesOffered in_data more l l' fs3 fs4 left) →
+    TakesAck time due' left w3 w4 fs4 fs5 len' → sealed_datagrams fs5 ≡ sealed_datagrams own.own
+parts_datagrams time room rest more left len len' due due' in_data w w1 w2 w3 w4 fs0 fs1 fs2 fs3 fs4 fs5 l l' is_fs0 is_fs1 takes crypto own bundle =
+    ap sealed_datagrams (parts_list w fs0 fs1 fs2 fs3 fs4 fs5 takes.acks crypto.frames own.own bundle.acks is_fs0 is_fs1 takes.list crypto.list own.list bundle.list)
+    ∙ datagrams_by (marks_part w) takes.acks crypto.frames own.own bundle.acks (marks_datagrams w) (datagrams_ack time room w1 takes.acks due takes.part) (crypto_datagrams w2 rest crypto.frames crypto.part)
+    (datagrams_ack time left w3 bundle.acks due' bundle.part)
+
+-- each DATAGRAM of the packet holds the oldest datagram, as each of the offered frames does
+pub parts_oldest : {S : Type 0} (time room rest more left len len' : ℕ) (due due' in_data : Bool) (w w1 w2 w3 w4 : SpaceWaiting) (fs0 fs1 fs2 fs3 fs4 fs5 : List FrameValue) (l l' : Lower S) →
+    fs0 ≡ [] → fs1 ≡ fs0 ++ marks_part w → TakesAck time due room w1 w2 fs1 fs2 len → TakesCrypto rest w2 w3 fs2 fs3 more → TakesOffered in_data more l l' fs3 fs4 left →
+    TakesAck time due' left w3 w4 fs4 fs5 len' → AllOldest fs5 l.datagrams
+parts_oldest time room rest more left len len' due due' in_data w w1 w2 w3 w4 fs0 fs1 fs2 fs3 fs4 fs5 l l' is_fs0 is_fs1 takes crypto own bundle =
+    let last : AllOldest (own.own ++ bundle.acks) l.datagrams = none_behind own.own bundle.acks l.datagrams (datagrams_ack time left w3 bundle.acks due' bundle.part) own.oldest in
+    let behind : AllOldest (crypto.frames ++ (own.own ++ bundle.acks)) l.datagrams = none_before crypto.frames (own.own ++ bundle.acks) l.datagrams (crypto_datagrams w2 rest crypto.frames crypto.part) last in
+    let front : AllOldest (takes.acks ++ (crypto.frames ++ (own.own ++ bundle.acks))) l.datagrams =
+    none_before takes.acks (crypto.frames ++ (own.own ++ bundle.acks)) l.datagrams (datagrams_ack time room w1 takes.acks due takes.part) behind in
+    subst (λ (fs : List FrameValue). AllOldest fs l.datagrams) (sym (parts_list w fs0 fs1 fs2 fs3 fs4 fs5 takes.acks crypto.frames own.own bundle.acks is_fs0 is_fs1 takes.list crypto.list own.list bundle.list))
+    (none_before (marks_part w) (takes.acks ++ (crypto.frames ++ (own.own ++ bundle.acks))) l.datagrams (marks_datagrams w) front)
+
+-- ---- the steps of the ids
+
+marks_cids_by : (a b : Bool) → sealed_cids ((if a then HandshakeDone ∷ [] else []) ++ (if b then Ping ∷ [] else [])) ≡ []
+unfolding sealed_cids
+marks_cids_by true true = refl
+marks_cids_by true false = refl
+marks_cids_by false true = refl
+marks_cids_by false false = refl
+
+marks_cids : (w : SpaceWaiting) → sealed_cids (marks_part w) ≡ []
+unfolding marks_part done_part ping_part
+marks_cids w = marks_cids_by w.done w.ping
+
+crypto_cids : (w : SpaceWaiting) (room : ℕ) (fs : List FrameValue) → CryptoPart w room fs → sealed_cids fs ≡ []
+unfolding sealed_cids CryptoPart
+crypto_cids w room [] h = refl
+crypto_cids w room (frames.Crypto offset body ∷ fs) h = crypto_cids (without w (frames.Crypto offset body)) _ fs h.2
+crypto_cids w room (_ ∷ fs) h = absurd h
+
+-- so those of a packet are those of the offered frames among them
+cids_by : (marks acks crypto own last : List FrameValue) → sealed_cids marks ≡ [] → sealed_cids acks ≡ [] → sealed_cids crypto ≡ [] → sealed_cids last ≡ [] →
+    sealed_cids (marks ++ (acks ++ (crypto ++ (own ++ last)))) ≡ sealed_cids own
+cids_by marks acks crypto own last no_marks no_acks no_crypto no_last =
+    cids_append marks (acks ++ (crypto ++ (own ++ last))) ∙ ap (λ (xs : List ids.Step). xs ++ sealed_cids (acks ++ (crypto ++ (own ++ last)))) no_marks
+    ∙ cids_append acks (crypto ++ (own ++ last)) ∙ ap (λ (xs : List ids.Step). xs ++ sealed_cids (crypto ++ (own ++ last))) no_acks
+    ∙ cids_append crypto (own ++ last) ∙ ap (λ (xs : List ids.Step). xs ++ sealed_cids (own ++ last)) no_crypto
+    ∙ cids_append own last ∙ ap (λ (xs : List ids.Step). sealed_cids own ++ xs) no_last ∙ append-nil (sealed_cids own)
+
+parts_cids : {S : Type 0} (time room rest more left len len' : ℕ) (due due' in_data : Bool) (w w1 w2 w3 w4 : SpaceWaiting) (fs0 fs1 fs2 fs3 fs4 fs5 : List FrameValue) (l l' : Lower S) →
+    fs0 ≡ [] → fs1 ≡ fs0 ++ marks_part w → TakesAck time due room w1 w2 fs1 fs2 len → TakesCrypto rest w2 w3 fs2 fs3 more → (own : TakesOffered in_data more l l' fs3 fs4 left) →
+    TakesAck time due' left w3 w4 fs4 fs5 len' → sealed_cids fs5 ≡ sealed_cids own.own
+parts_cids time room rest more left len len' due due' in_data w w1 w2 w3 w4 fs0 fs1 fs2 fs3 fs4 fs5 l l' is_fs0 is_fs1 takes crypto own bundle =
+    ap sealed_cids (parts_list w fs0 fs1 fs2 fs3 fs4 fs5 takes.acks crypto.frames own.own bundle.acks is_fs0 is_fs1 takes.list crypto.list own.list bundle.list)
+    ∙ cids_by (marks_part w) takes.acks crypto.frames own.own bundle.acks (marks_cids w) (cids_ack time room w1 takes.acks due takes.part) (crypto_cids w2 rest crypto.frames crypto.part)
+    (cids_ack time left w3 bundle.acks due' bundle.part)
+
+-- each frame of the packet that is theirs is the one that goes next, as each of the offered frames is
+pub parts_next : {S : Type 0} (time room rest more left len len' : ℕ) (due due' in_data : Bool) (w w1 w2 w3 w4 : SpaceWaiting) (fs0 fs1 fs2 fs3 fs4 fs5 : List FrameValue) (l l' : Lower S) →
+    fs0 ≡ [] → fs1 ≡ fs0 ++ marks_part w → TakesAck time due room w1 w2 fs1 fs2 len → TakesCrypto rest w2 w3 fs2 fs3 more → TakesOffered in_data more l l' fs3 fs4 left →
+    TakesAck time due' left w3 w4 fs4 fs5 len' → AllNext fs5 l.ids
+parts_next time room rest more left len len' due due' in_data w w1 w2 w3 w4 fs0 fs1 fs2 fs3 fs4 fs5 l l' is_fs0 is_fs1 takes crypto own bundle =
+    let last : AllNext (own.own ++ bundle.acks) l.ids = no_cid_behind own.own bundle.acks l.ids (cids_ack time left w3 bundle.acks due' bundle.part) own.next in
+    let behind : AllNext (crypto.frames ++ (own.own ++ bundle.acks)) l.ids = no_cid_before crypto.frames (own.own ++ bundle.acks) l.ids (crypto_cids w2 rest crypto.frames crypto.part) last in
+    let front : AllNext (takes.acks ++ (crypto.frames ++ (own.own ++ bundle.acks))) l.ids =
+    no_cid_before takes.acks (crypto.frames ++ (own.own ++ bundle.acks)) l.ids (cids_ack time room w1 takes.acks due takes.part) behind in
+    subst (λ (fs : List FrameValue). AllNext fs l.ids) (sym (parts_list w fs0 fs1 fs2 fs3 fs4 fs5 takes.acks crypto.frames own.own bundle.acks is_fs0 is_fs1 takes.list crypto.list own.list bundle.list))
+    (no_cid_before (marks_part w) (takes.acks ++ (crypto.frames ++ (own.own ++ bundle.acks))) l.ids (marks_cids w) front)
+
+-- ---- what they leave
+
+-- the frames of a packet leave of the layers below what the offered ones among them leave
+pub parts_leads : {S : Type 0} (time room rest more left len len' : ℕ) (due due' in_data : Bool) (w w1 w2 w3 w4 : SpaceWaiting) (fs0 fs1 fs2 fs3 fs4 fs5 : List FrameValue) (l l' : Lower S) →
+    fs0 ≡ [] → fs1 ≡ fs0 ++ marks_part w → TakesAck time due room w1 w2 fs1 fs2 len → TakesCrypto rest w2 w3 fs2 fs3 more → TakesOffered in_data more l l' fs3 fs4 left →
+    TakesAck time due' left w3 w4 fs4 fs5 len' → l' ≡ frames_sealed fs5 l
+parts_leads time room rest more left len len' due due' in_data w w1 w2 w3 w4 fs0 fs1 fs2 fs3 fs4 fs5 l l' is_fs0 is_fs1 takes crypto own bundle =
+    own.leads
+    ∙ sym (sealed_same fs5 own.own l (parts_steps time room rest more left len len' due due' in_data w w1 w2 w3 w4 fs0 fs1 fs2 fs3 fs4 fs5 l l' is_fs0 is_fs1 takes crypto own bundle)
+    (parts_datagrams time room rest more left len len' due due' in_data w w1 w2 w3 w4 fs0 fs1 fs2 fs3 fs4 fs5 l l' is_fs0 is_fs1 takes crypto own bundle)
+    (parts_cids time room rest more left len len' due due' in_data w w1 w2 w3 w4 fs0 fs1 fs2 fs3 fs4 fs5 l l' is_fs0 is_fs1 takes crypto own bundle))
 
 -- the ACK behind other frames is one of what waited before them
 last_part : (time room rest left : ℕ) (bundled : Option ℕ) (b : Bool) (w v u : SpaceWaiting) (acks crypto last : List FrameValue) → w.acks ≡ v.acks → w.marks ≡ v.marks → AckPart time w room acks (is_ack_first w.acks) →
@@ -182,11 +303,11 @@ last_part time room rest left bundled true w v u acks crypto last same counts pa
 last_part time room rest left bundled false w v u acks crypto last same counts part bytes is e (AckPart.none none) = AckPart.none none
 
 -- the parts are the frames that may be taken
-pub taken_part : (time room count less rest more left len len' : ℕ) (bundled : Option ℕ) (first last : Bool) (w w1 w2 w3 w4 : SpaceWaiting) (in_data : Bool) (fs0 fs1 fs2 fs3 fs4 fs5 : List FrameValue) (s s' : StreamsState) →
+pub taken_part : {S : Type 0} (time room count less rest more left len len' : ℕ) (bundled : Option ℕ) (first last : Bool) (w w1 w2 w3 w4 : SpaceWaiting) (in_data : Bool) (fs0 fs1 fs2 fs3 fs4 fs5 : List FrameValue) (l l' : Lower S) →
     first ≡ is_ack_first w.acks → last ≡ is_ack_last time bundled w.acks → fs0 ≡ [] → fs1 ≡ fs0 ++ marks_part w → w1 ≡ without_all w (marks_part w) → count ≡ length (marks_part w) → less ≡ room - count →
-    TakesAck time first less w1 w2 fs1 fs2 len → rest ≡ less - len → TakesCrypto rest w2 w3 fs2 fs3 more → TakesStreams in_data more s s' fs3 fs4 left → TakesAck time last left w3 w4 fs4 fs5 len' →
+    TakesAck time first less w1 w2 fs1 fs2 len → rest ≡ less - len → TakesCrypto rest w2 w3 fs2 fs3 more → TakesOffered in_data more l l' fs3 fs4 left → TakesAck time last left w3 w4 fs4 fs5 len' →
     TakenPart time bundled in_data w room fs5
-taken_part time room count less rest more left len len' bundled first last w w1 w2 w3 w4 in_data fs0 fs1 fs2 fs3 fs4 fs5 s s' is_first is_last is_fs0 is_fs1 is_w1 is_count is_less takes is_rest crypto streams bundle =
+taken_part time room count less rest more left len len' bundled first last w w1 w2 w3 w4 in_data fs0 fs1 fs2 fs3 fs4 fs5 l l' is_first is_last is_fs0 is_fs1 is_w1 is_count is_less takes is_rest crypto streams bundle =
     let same : w1.acks ≡ w.acks = ap (λ (x : SpaceWaiting). x.acks) is_w1 ∙ marks_acks w in
     let counts : w1.marks ≡ w.marks = ap (λ (x : SpaceWaiting). x.marks) is_w1 ∙ marks_counts w in
     let behind : less ≡ room - length (marks_part w) = is_less ∙ ap (λ (n : ℕ). room - n) is_count in
@@ -203,7 +324,7 @@ taken_part time room count less rest more left len len' bundled first last w w1 
       crypto = crypto.frames;
       part = subst (λ (n : ℕ). CryptoPart (without_all w (marks_part w ++ takes.acks)) n crypto.frames) size (subst (λ (x : SpaceWaiting). CryptoPart x rest crypto.frames) here bytes);
       own = streams.own;
-      streams = streams.are;
+      offered = streams.are;
       left = left;
       fits = subst (λ (n : ℕ). length (frames_spelling streams.own) + left ≤ n) (crypto.behind ∙ ap (λ (n : ℕ). room_behind n crypto.frames) size) streams.fits;
       last = bundle.acks;
@@ -224,6 +345,38 @@ front_steps time bundled in_data w room fs taken =
     sealed_append (marks_part w) (taken.acks ++ taken.crypto) ∙ ap (λ (xs : List Step). xs ++ sealed_steps (taken.acks ++ taken.crypto)) (marks_steps w) ∙ sealed_append taken.acks taken.crypto
     ∙ ap (λ (xs : List Step). xs ++ sealed_steps taken.crypto) (sealed_ack time (room - length (marks_part w)) w taken.acks (is_ack_first w.acks) taken.ack)
     ∙ crypto_steps (without_all w (marks_part w ++ taken.acks)) _ taken.crypto taken.part
+
+-- the same of the datagrams' steps
+pub front_datagrams : (time : ℕ) (bundled : Option ℕ) (in_data : Bool) (w : SpaceWaiting) (room : ℕ) (fs : List FrameValue) → (taken : TakenPart time bundled in_data w room fs) →
+    sealed_datagrams (marks_part w ++ (taken.acks ++ taken.crypto)) ≡ []
+front_datagrams time bundled in_data w room fs taken =
+    datagrams_append (marks_part w) (taken.acks ++ taken.crypto) ∙ ap (λ (xs : List datagrams.Step). xs ++ sealed_datagrams (taken.acks ++ taken.crypto)) (marks_datagrams w) ∙ datagrams_append taken.acks taken.crypto
+    ∙ ap (λ (xs : List datagrams.Step). xs ++ sealed_datagrams taken.crypto) (datagrams_ack time (room - length (marks_part w)) w taken.acks (is_ack_first w.acks) taken.ack)
+    ∙ crypto_datagrams (without_all w (marks_part w ++ taken.acks)) _ taken.crypto taken.part
+
+-- and the offered frames among them hold the oldest datagrams, where all do
+pub own_oldest : (time : ℕ) (bundled : Option ℕ) (in_data : Bool) (w : SpaceWaiting) (room : ℕ) (fs : List FrameValue) (d : Datagrams) → (taken : TakenPart time bundled in_data w room fs) → AllOldest fs d → AllOldest taken.own d
+own_oldest time bundled in_data w room fs d taken h =
+    let front : List FrameValue = marks_part w ++ (taken.acks ++ taken.crypto) in
+    let all : fs ≡ front ++ (taken.own ++ taken.last) = taken.all ∙ simp append_assoc in
+    oldest_first taken.own taken.last d
+    (behind_none front (taken.own ++ taken.last) d (front_datagrams time bundled in_data w room fs taken) (subst (λ (x : List FrameValue). AllOldest x d) all h))
+
+-- the same of the ids' steps
+pub front_cids : (time : ℕ) (bundled : Option ℕ) (in_data : Bool) (w : SpaceWaiting) (room : ℕ) (fs : List FrameValue) → (taken : TakenPart time bundled in_data w room fs) →
+    sealed_cids (marks_part w ++ (taken.acks ++ taken.crypto)) ≡ []
+front_cids time bundled in_data w room fs taken =
+    cids_append (marks_part w) (taken.acks ++ taken.crypto) ∙ ap (λ (xs : List ids.Step). xs ++ sealed_cids (taken.acks ++ taken.crypto)) (marks_cids w) ∙ cids_append taken.acks taken.crypto
+    ∙ ap (λ (xs : List ids.Step). xs ++ sealed_cids taken.crypto) (cids_ack time (room - length (marks_part w)) w taken.acks (is_ack_first w.acks) taken.ack)
+    ∙ crypto_cids (without_all w (marks_part w ++ taken.acks)) _ taken.crypto taken.part
+
+-- and each of the offered frames among them that is theirs is the one that goes next, where all are
+pub own_next : (time : ℕ) (bundled : Option ℕ) (in_data : Bool) (w : SpaceWaiting) (room : ℕ) (fs : List FrameValue) (d : ConnectionIds) → (taken : TakenPart time bundled in_data w room fs) → AllNext fs d → AllNext taken.own d
+own_next time bundled in_data w room fs d taken h =
+    let front : List FrameValue = marks_part w ++ (taken.acks ++ taken.crypto) in
+    let all : fs ≡ front ++ (taken.own ++ taken.last) = taken.all ∙ simp append_assoc in
+    next_first taken.own taken.last d
+    (behind_no_cid front (taken.own ++ taken.last) d (front_cids time bundled in_data w room fs taken) (subst (λ (x : List FrameValue). AllNext x d) all h))
 
 -- no CRYPTO bytes wait, or there is no room for them
 pub crypto_none : (room : ℕ) (w : SpaceWaiting) (fs : List FrameValue) → (crypto_waits w ≡ false) ⊎ (room ≤ 17) → TakesCrypto room w w fs fs room

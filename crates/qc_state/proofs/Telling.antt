@@ -2,6 +2,7 @@
 use Rattle.std.proofs.Common.{◌≡◌, ℕ, ◌+◌, ◌<◌, ◌≤◌, List, [], ◌∷◌, ◌++◌, length, refl, ap, sym, ◌∙◌, subst, Bool, true, false, Option, Some, None, if◌then◌else◌, append_assoc, append-nil, arith}
 use Rattle.std.specs.Prelude.{option_to_list, is_none, ◌&&◌, IfSome}
 use Rattle.std.specs.List.{list_any}
+use Rattle.std.specs.declared.net.SocketAddr.{SocketAddr}
 use Rattle.qc_base.specs.declared.side.SpaceId.{SpaceId}
 use Rattle.qc_base.specs.declared.side.SpaceId.TheVariants.{Initial, Handshake, «Data»}
 use Rattle.qc_frame.specs.Frame.{FrameValue}
@@ -13,18 +14,23 @@ use Rattle.qc_state.specs.declared.life.State.{State}
 use Rattle.qc_state.specs.declared.life.State.TheVariants as state
 use Rattle.qc_path.specs.Arrived.{Window, is_new, arrived}
 use Rattle.qc_state.specs.declared.deeds.Verdict.{Verdict}
+use Rattle.qc_cids.specs.Cids.{asks_one, next_token, token_by}
+use Rattle.qc_cids.specs.Steps as ids
+use Rattle.qc_ids.specs.Expiries.{oldest_time}
+use Rattle.qc_ids.specs.LocalCids.{may_retire}
+use Rattle.qc_state.specs.Ids.{active_limit}
 use Rattle.qc_state.specs.Keys.{epoch_in}
 use Rattle.qc_state.specs.Forms.{is_early, number_space}
 use Rattle.qc_state.specs.Headline.{sealed_in, reasons_in, lives_in, entered_number, entered_in, EachNew, came_with, CloseFrom, RisesFrom, Kernel, kernel_of, kernel_after, IsBehind, IsRight, Tells}
-use Rattle.qc_state.specs.Life.{rank_of, is_open, is_closed, is_drained, reason_given, life_raised, life_closed, life_drained, life_established, data_ready, token_learned, identifiers_wanted, ready_reported, connected_reported, datagram_heard, heard_reported, all_heard_reported, lost_reported, notice_reported, notices_reported, drained_reported}
-use Rattle.qc_state.specs.Moves.{Move, ClosesOnly, Clock, Ask, Take, Seal, Forget, Enter, Expect, Fail, Accept, Fix, Hear, Ack, Fire, Arm, Pace, Release, Begin, Skip, Come, Read, Write, Ready, Token, Learn, Want, Confirm, Establish, Tell, Hand, Call, Post, PeerClosesToo, PeerCloses, Owe, IsTold, enters, Shut, Raise, Give, Say, ReportReady, ReportConnected, ReportHeard, ReportAllHeard, ReportStream, ReportStreams, ReportLost, ReportNotice, ReportNotices, ReportDrained, state_move, move_to, deeds_move, MayMove, told, arrival_of, numbers_move, life_move, timers_move, Finish}
+use Rattle.qc_state.specs.Life.{rank_of, is_open, is_closed, is_drained, reason_given, life_raised, life_closed, life_drained, life_established, data_ready, token_learned, token_told, identifiers_wanted, retirement_told, ready_reported, connected_reported, datagram_heard, heard_reported, all_heard_reported, lost_reported, notice_reported, notices_reported, drained_reported}
+use Rattle.qc_state.specs.Moves.{Move, ClosesOnly, Clock, Ask, Take, Seal, Forget, Enter, Expect, Fail, Accept, Fix, Hear, Ack, Fire, Arm, Pace, Release, Begin, Skip, Come, Read, Write, Ready, Token, Learn, Want, Confirm, Establish, Tell, Hand, Insert, Switch, Retire, Issue, Outlive, Call, Post, PeerClosesToo, PeerCloses, Owe, IsTold, enters, Shut, Raise, Give, Say, ReportReady, ReportConnected, ReportHeard, ReportAllHeard, ReportStream, ReportStreams, ReportLost, ReportNotice, ReportNotices, ReportDrained, state_move, move_to, deeds_move, MayMove, told, arrival_of, numbers_move, life_move, timers_move, Finish}
 use Rattle.qc_state.specs.Numbers.{next_number, came_in, is_new_in, number_used, number_skipped, used_in, number_entered, number_accepted, number_acked}
 use Rattle.qc_state.specs.Numbers as numbers
 use Rattle.qc_state.specs.Recovering.{probe_timeout_now}
 use Rattle.qc_state.specs.Setup.{idle_limit_now}
 use Rattle.qc_state.specs.Spaces.{is_space, space_of, with_space}
 use Rattle.qc_state.specs.declared.numbers.SpaceNumbers.{SpaceNumbers}
-use Rattle.qc_state.specs.Timers.{timers_sealed, timers_acking, timers_accepted, timers_holding, timers_paced, timers_released, timers_armed, timers_stopped, timers_closing}
+use Rattle.qc_state.specs.Timers.{timers_sealed, timers_acking, timers_accepted, timers_holding, timers_paced, timers_released, timers_armed, timers_issued, timers_outlived, timers_stopped, timers_closing}
 use Rattle.qc_state.specs.Waiting.{holds_back}
 use Rattle.qc_state.specs.Acks.{is_ack}
 use Rattle.qc_state.specs.Draws.{word}
@@ -199,6 +205,12 @@ no_number id None number v e = refl
 no_number id (Some space) None v e = refl
 no_number id (Some space) (Some n) v e = no_number_by (is_space id space) n (enters v) e
 
+-- ids that are given leave the clock
+issued_clock : (v : Timers) (oldest : Option ℕ) (time : ℕ) (drained : Bool) → (if drained then v else timers_issued v oldest time).greatest ≡ v.greatest
+unfolding timers_issued
+issued_clock v oldest time true = refl
+issued_clock v oldest time false = refl
+
 sealed_clock : (timers : Timers) (limit : Option ℕ) (probe time : ℕ) (b : Bool) → (if b then timers_sealed timers limit probe time else timers).greatest ≡ timers.greatest
 unfolding timers_sealed
 sealed_clock timers limit probe time true = refl
@@ -287,6 +299,18 @@ module _ {t : Types} where
   handed_tells id f false true s = behind_here _
   handed_tells id f false false s = behind_here _
 
+  -- a token that came with an id of the peer, or none, leaves the state and the reason
+  token_tells : (id : SpaceId) (remote : SocketAddr) (token : Option (List ℕ)) (s : View t) → IsBehind (kernel id s) (kernel_of id s.numbers (token_told s.life remote token))
+  unfolding token_learned
+  token_tells id remote None s = behind_here _
+  token_tells id remote (Some token) s = behind_here _
+
+  -- so does an id that the peer retired
+  retired_tells : (id : SpaceId) (time n : ℕ) (allowed more : Bool) (s : View t) → IsBehind (kernel id s) (kernel_of id s.numbers (if allowed then retirement_told s.life time n more else s.life))
+  unfolding retirement_told
+  retired_tells id time n true more s = behind_here _
+  retired_tells id time n false more s = behind_here _
+
   give_tells : (id : SpaceId) (s : View t) (why : ConnectionError) → s.life.reason ≡ None → Tells id (kernel id s) (did.Lost why ∷ []) (kernel_of id s.numbers (reason_given s.life why))
   unfolding Tells reason_given
   give_tells id s why h = (h, rw h (behind_here _))
@@ -321,6 +345,11 @@ module _ {t : Types} where
   move_tells id Establish s h = (h, behind_here _)
   move_tells id (Tell d) s h = told_tells id d s h
   move_tells id (Hand f) s h = handed_tells id f (is_given_to_streams f) (tells_datagram f s.lower.datagrams) s
+  move_tells id (Insert new) s h = (tt, token_tells id s.paths.current.remote (token_by new s.lower.ids.remote) s)
+  move_tells id Switch s h = token_tells id s.paths.current.remote (next_token s.lower.ids.remote) s
+  move_tells id (Retire time n) s h = (tt, retired_tells id time n (may_retire n s.lower.ids.local) (asks_one (active_limit s.setup.peer) n s.lower.ids) s)
+  move_tells id (Issue time given) s h = behind_here _
+  move_tells id Outlive s h = behind_here _
   move_tells id (Call x) s h = behind_here _
   move_tells id (Post x) s h = behind_here _
   move_tells id ReportHeard s h = behind_here _
@@ -345,7 +374,7 @@ module _ {t : Types} where
 
   -- no move but the first of a call sets the clock
   pub clock_kept : (x : Move t) (s : View t) → MayMove x s → (state_move x s).timers.greatest ≡ s.timers.greatest
-  unfolding MayMove state_move timers_move timers_accepted timers_armed timers_stopped timers_closing timers_paced timers_released
+  unfolding MayMove state_move timers_move timers_accepted timers_armed timers_stopped timers_closing timers_paced timers_released timers_outlived
   clock_kept (Clock time) s h = absurd h
   clock_kept (Ask space) s h = refl
   clock_kept (Take space fs) s h = refl
@@ -375,6 +404,11 @@ module _ {t : Types} where
   clock_kept Establish s h = refl
   clock_kept (Tell d) s h = refl
   clock_kept (Hand f) s h = refl
+  clock_kept (Insert new) s h = refl
+  clock_kept Switch s h = refl
+  clock_kept (Retire time n) s h = refl
+  clock_kept (Issue time given) s h = issued_clock s.timers (oldest_time (ids.after_step (ids.Given given time) s.lower.ids).local.expiries) time (is_drained s.life.state)
+  clock_kept Outlive s h = refl
   clock_kept (Call x) s h = refl
   clock_kept (Post x) s h = refl
   clock_kept ReportHeard s h = refl

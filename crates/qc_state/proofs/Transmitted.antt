@@ -28,7 +28,11 @@ use Rattle.qc_state.specs.Sending.{Carries, Choice, Closes, MayBegin, MayTransmi
 use Rattle.qc_state.specs.Stopping.{given_after, key_limit_error, killed_after, stopped_after}
 use Rattle.qc_state.specs.Types.{Types, Meaning}
 use Rattle.qc_state.specs.View.{View, At, at}
+use Rattle.qc_state.proofs.DatagramSteps.{carried_oldest}
+use Rattle.qc_state.proofs.IdSteps.{carried_next}
 use Rattle.qc_state.proofs.SealedSteps.{carried_may}
+use Rattle.qc_state.specs.Datagrams.{AllOldest}
+use Rattle.qc_state.specs.Ids.{AllNext}
 use Rattle.qc_state.specs.StreamFrames.{sealed_steps}
 use Rattle.qc_streams.specs.Steps.{AllMay}
 use Rattle.qc_state.proofs.Begun.{begun_keys, begun_life, begun_same, holds_begun}
@@ -112,6 +116,8 @@ module _ {t : Types} where
     pub small : room ≤ 65527
     pub carries : Carries closing time s form room fs
     pub takes : AllMay (sealed_steps fs) s.lower.streams
+    pub oldest : AllOldest fs s.lower.datagrams
+    pub next : AllNext fs s.lower.ids
     pub closes : ClosesOnly (rank_of s.life.state) fs
     pub fresh : reaches_limit 0 (usage_of s.keys form) ≡ false
     pub alive : is_drained s.life.state ≡ false
@@ -164,6 +170,8 @@ module _ {t : Types} where
         small = room_small (begun_batch a.state (number_space p.form) p.opens b) (begun_view a.state (number_space p.form) p.opens) p.form may.sized;
         carries = carries;
         takes = carried_may b.closing time (begun_after (number_space p.form) p.opens a).state p.form _ p.frames carries;
+        oldest = carried_oldest b.closing time (begun_after (number_space p.form) p.opens a).state p.form _ p.frames carries;
+        next = carried_next b.closing time (begun_after (number_space p.form) p.opens a).state p.form _ p.frames carries;
         closes = subst (λ (l : Life). ClosesOnly (rank_of l.state) p.frames) (sym (begun_life (number_space p.form) p.opens a)) (closes_only time a.state b p may);
         fresh = subst (λ (k : KeyGroup t.H t.P). reaches_limit 0 (usage_of k p.form) ≡ false) (sym (begun_keys (number_space p.form) p.opens a)) (unlimited a.state p.form may.begins.fresh).0;
         alive = subst (λ (l : Life). is_drained l.state ≡ false) (sym (begun_life (number_space p.form) p.opens a)) may.begins.turn.alive;

@@ -1,6 +1,6 @@
 -- The ACK of a space (RFC 9000, sections 13.2 and 19.3).
-use Rattle.std.specs.Prelude.{◌≡◌, ℕ, ◌-◌, ◌^◌, ◌<◌, ◌≤◌, ◌==◌, ◌&&◌, ◌||◌, not, Bool, true, false}
-use Rattle.std.specs.Prelude.{nat_lt, nat_le, min, if◌then◌else◌, List, [], ◌∷◌, length, reverse, slice_index_or, Option, None, Some}
+use Rattle.std.specs.Prelude.{◌≡◌, ℕ, ◌-◌, ◌^◌, ◌<◌, ◌≤◌, ◌&&◌, ◌||◌, not, Bool, true, false}
+use Rattle.std.specs.Prelude.{nat_lt, nat_le, min, List, [], ◌∷◌, length, reverse, slice_index_or, Option, None, Some}
 use Rattle.std.specs.List.{flat_map, list_any}
 use Rattle.qc_base.specs.Varint.{varint}
 use Rattle.qc_base.specs.declared.range_set.NumberRange.{NumberRange}

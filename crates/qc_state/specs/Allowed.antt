@@ -1,10 +1,12 @@
 -- Which frames may go: those that wait in a space, over all layers.
-use Rattle.std.specs.Prelude.{◌≡◌, ℕ, true, List, [], ◌∷◌}
+use Rattle.std.specs.Prelude.{◌≡◌, ℕ, true, List, [], ◌∷◌, Some}
 use Rattle.qc_base.specs.declared.side.SpaceId.{SpaceId}
 use Rattle.qc_base.specs.declared.side.SpaceId.TheVariants.{«Data»}
+use Rattle.qc_cids.specs.Cids.{next_retired, next_told}
 use Rattle.qc_frame.specs.Frame.{FrameValue}
 use Rattle.qc_frame.specs.FrameFits.{Fits}
 use Rattle.qc_frame.specs.declared.frames.FrameOf.TheVariants as frames
+use Rattle.qc_datagrams.specs.Queue.{first}
 use Rattle.qc_state.specs.Acks.{SaysAck, is_ack_given}
 use Rattle.qc_state.specs.Moves.{Take, state_move}
 use Rattle.qc_state.specs.Spaces.{space_of}
@@ -17,9 +19,9 @@ use Rattle.qc_state.specs.Waiting.{StartsWith}
 
 module _ {t : Types} where
   -- a frame waits in a space at a time: the HANDSHAKE_DONE or the PING that was asked for, an ACK that may be given, or the first CRYPTO
-  -- bytes; in 1-RTT packets also bytes of a stream that the streams offer, and a frame without bytes that they owe, as far as its numbers have
-  -- room in their fields. A frame of another kind
-  -- doesn't, until a layer offers it.
+  -- bytes; in 1-RTT packets also bytes of a stream that the streams offer, a frame without bytes that they owe, the oldest datagram that is
+  -- to be sent, as far as their numbers have room in their fields, the id of this end with the lowest number that was given and not told, and
+  -- the lowest number of the peer's ids that is to be retired. A frame of another kind doesn't, until a layer offers it.
   unfoldable pub Waits : (time : ℕ) → View t → SpaceId → FrameValue → Type 0
   Waits time s id frames.HandshakeDone = (space_of s.waiting.spaces id).done ≡ true
   Waits time s id frames.Ping = (space_of s.waiting.spaces id).ping ≡ true
@@ -37,13 +39,13 @@ module _ {t : Types} where
   Waits time s id (frames.DataBlocked limit) = ⊥
   Waits time s id (frames.StreamDataBlocked stream limit) = ⊥
   Waits time s id (frames.StreamsBlocked dir limit) = ⊥
-  Waits time s id (frames.NewConnectionId cid) = ⊥
-  Waits time s id (frames.RetireConnectionId sequence) = ⊥
+  Waits time s id (frames.NewConnectionId new) = (id ≡ «Data») × (next_told s.lower.ids ≡ Some new) × Fits (frames.NewConnectionId new)
+  Waits time s id (frames.RetireConnectionId sequence) = (id ≡ «Data») × (next_retired s.lower.ids ≡ Some sequence)
   Waits time s id (frames.PathChallenge bits) = ⊥
   Waits time s id (frames.PathResponse bits) = ⊥
   Waits time s id (frames.ConnectionClose code type reason) = ⊥
   Waits time s id (frames.ApplicationClose code reason) = ⊥
-  Waits time s id (frames.Datagram body) = ⊥
+  Waits time s id (frames.Datagram body) = (id ≡ «Data») × (first s.lower.datagrams.outgoing ≡ body ∷ []) × Fits (frames.Datagram body)
 
   -- each frame waits as its turn comes: those before it were taken, and wait no longer
   unfoldable pub WaitAll : (time : ℕ) → View t → SpaceId → List FrameValue → Type 0

@@ -1,13 +1,16 @@
--- The datagrams of the application as a layer with steps of its own (RFC 9221): which frames it is handed, why it refuses one, and what the
--- application's calls are answered. What a step makes of them stands with the datagrams, and is opened nowhere here.
-use Rattle.std.specs.Prelude.{ℕ, Bool, true, false, ◌&&◌, not, ◌==◌, if◌then◌else◌, List, [], ◌∷◌, ◌++◌, length, Option, None, Some, option_map}
+-- The datagrams of the application as a layer with steps of its own (RFC 9221): which frames it is handed, why it refuses one, which of its
+-- own frames are sealed, and what the application's calls are answered. What a step makes of them stands with the datagrams, and is opened
+-- nowhere here.
+use Rattle.std.specs.Prelude.{◌≡◌, ℕ, nat_le, Bool, false, ◌&&◌, not, ◌==◌, if◌then◌else◌, List, [], ◌∷◌, ◌++◌, length, Option, None, Some}
 use Rattle.qc_base.specs.declared.transport_error.TransportError.{TransportError}
 use Rattle.qc_datagrams.specs.declared.datagrams.Datagrams.{Datagrams}
 use Rattle.qc_datagrams.specs.declared.datagrams.SendRefusal.{SendRefusal}
 use Rattle.qc_datagrams.specs.declared.datagrams.SendRefusal.TheVariants as send
-use Rattle.qc_datagrams.specs.Datagrams.{is_refused, send_refusal}
-use Rattle.qc_datagrams.specs.Steps.{Step, Came}
+use Rattle.qc_datagrams.specs.Datagrams.{is_refused}
+use Rattle.qc_datagrams.specs.Queue.{first}
+use Rattle.qc_datagrams.specs.Steps.{Step, Came, Sealed, after}
 use Rattle.qc_frame.specs.Frame.{FrameValue}
+use Rattle.qc_frame.specs.FrameSpelling.{spelling}
 use Rattle.qc_frame.specs.declared.frames.FrameOf.TheVariants as frames
 use Rattle.qc_params.specs.declared.params.TransportParameters.{TransportParameters}
 use Rattle.qc_state.specs.declared.trace.Answer.{Answer}
@@ -28,6 +31,31 @@ datagram_steps _ = []
 abbrev pub tells_datagram : FrameValue → Datagrams → Bool
 tells_datagram (frames.Datagram body) d = not (is_refused body d) && (length d.incoming == 0)
 tells_datagram _ d = false
+
+-- the step with which a frame is sealed, where it is a DATAGRAM
+abbrev pub sealed_datagram : FrameValue → List Step
+sealed_datagram (frames.Datagram body) = Sealed ∷ []
+sealed_datagram _ = []
+
+-- those of all frames of a packet, in their order
+unfoldable pub sealed_datagrams : List FrameValue → List Step
+sealed_datagrams [] = []
+sealed_datagrams (f ∷ fs) = sealed_datagram f ++ sealed_datagrams fs
+
+-- a frame that is a DATAGRAM is the oldest that is to be sent
+abbrev pub IsOldest : FrameValue → Datagrams → Type 0
+IsOldest (frames.Datagram body) d = first d.outgoing ≡ body ∷ []
+IsOldest _ d = Unit {0}
+
+-- so is each DATAGRAM among frames as its turn comes: none overtakes another
+unfoldable pub AllOldest : List FrameValue → Datagrams → Type 0
+AllOldest [] d = Unit {0}
+AllOldest (f ∷ fs) d = IsOldest f d × AllOldest fs (after (sealed_datagram f) d)
+
+-- whether the oldest that is to be sent fits into so much room, as its frame is spelled with its length; where none is, it doesn't
+abbrev pub first_fits : (room : ℕ) → List (List ℕ) → Bool
+first_fits room [] = false
+first_fits room (d ∷ ds) = nat_le (length (spelling (frames.Datagram d))) room
 
 -- how long a frame may be that the peer takes, where it takes any
 abbrev pub frame_size_of : Option TransportParameters → Option ℕ

@@ -1,8 +1,10 @@
 -- The first view of a connection: of a client, and of a server.
-use Rattle.std.specs.Prelude.{ℕ, Bool, true, false, List, [], Option, Some, None}
+use Rattle.std.specs.Prelude.{ℕ, Bool, true, false, if◌then◌else◌, List, [], length, Option, Some, None}
 use Rattle.rand_core.specs.Stream.{Stream}
 use Rattle.std.specs.declared.net.IpAddr.{IpAddr}
 use Rattle.qc_assembler.specs.Assembly.{nothing}
+use Rattle.qc_cids.specs.Cids.{first_ids}
+use Rattle.qc_ids.specs.LocalCids.{first_local_cids}
 use Rattle.qc_base.specs.declared.side.Side.{Side}
 use Rattle.qc_base.specs.declared.side.Side.TheVariants.{Client, Server}
 use Rattle.qc_state.specs.declared.keys.SpaceKeys.{SpaceKeys}
@@ -32,12 +34,15 @@ use Rattle.qc_streams.specs.declared.state.StreamsState.{StreamsState}
 use Rattle.std.specs.declared.net.SocketAddr.{SocketAddr}
 
 -- what doesn't change of a connection
-abbrev pub fixed_of : Side → (version : ℕ) → (local_cid first_cid : List ℕ) → Option IpAddr → TransportValues → (grease_quic_bit : Bool) → (words : Stream) → Fixed
-fixed_of side version local_cid first_cid local_ip transport grease_quic_bit words = record {
+abbrev pub fixed_of : Side → (version : ℕ) → (local_cid first_cid : List ℕ) → (cid_lifetime : Option ℕ) → (preferred : Bool) → Option IpAddr → TransportValues → (grease_quic_bit : Bool) → (words : Stream)
+    → Fixed
+fixed_of side version local_cid first_cid cid_lifetime preferred local_ip transport grease_quic_bit words = record {
   side = side;
   version = version;
   local_cid = local_cid;
   first_cid = first_cid;
+  cid_lifetime = cid_lifetime;
+  issued = if preferred then 2 else 1;
   local_ip = local_ip;
   idle_limit = idle_limit_of transport.max_idle_timeout;
   crypto_buffer_size = transport.crypto_buffer_size;
@@ -84,6 +89,7 @@ module _ {t : Types} where
     setup = record { fixed = fixed; peer = None; token = None; initial_token = token; random = words_left transport.allow_spin words };
     lower = record {
       session = session;
+      ids = first_ids paths.current.remote_cid (first_local_cids (length fixed.local_cid) fixed.cid_lifetime time fixed.issued);
       crypto = record { initial = nothing; handshake = nothing; application = nothing };
       recovery = begun_recovery transport;
       streams = first_streams fixed.side transport;

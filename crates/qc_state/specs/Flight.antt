@@ -12,6 +12,17 @@ use Rattle.qc_frame.specs.declared.frames.FrameOf.TheVariants as frames
 abbrev pub greatest_alone : AckValue → AckValue
 greatest_alone ack = record { largest = ack.largest; delay = 0; additional = []; ecn = None }
 
+-- whether a frame that is kept whole holds numbers and an id alone: it is one of streams without bytes, or about connection ids
+abbrev pub has_numbers_alone : FrameValue → Bool
+has_numbers_alone (frames.ResetStream id code size) = true
+has_numbers_alone (frames.StopSending id code) = true
+has_numbers_alone (frames.MaxData limit) = true
+has_numbers_alone (frames.MaxStreamData id limit) = true
+has_numbers_alone (frames.MaxStreams dir limit) = true
+has_numbers_alone (frames.NewConnectionId new) = true
+has_numbers_alone (frames.RetireConnectionId sequence) = true
+has_numbers_alone _ = false
+
 -- what is kept of a frame while its packet is in flight: frames that are sent again where it is lost, but for STREAM, and which numbers an
 -- ACK acknowledged
 abbrev pub kept_of : FrameValue → List FrameValue
@@ -30,8 +41,8 @@ kept_of (frames.MaxStreams dir limit) = frames.MaxStreams dir limit ∷ []
 kept_of (frames.DataBlocked limit) = []
 kept_of (frames.StreamDataBlocked id limit) = []
 kept_of (frames.StreamsBlocked dir limit) = []
-kept_of (frames.NewConnectionId cid) = []
-kept_of (frames.RetireConnectionId sequence) = []
+kept_of (frames.NewConnectionId cid) = frames.NewConnectionId cid ∷ []
+kept_of (frames.RetireConnectionId sequence) = frames.RetireConnectionId sequence ∷ []
 kept_of (frames.PathChallenge bits) = []
 kept_of (frames.PathResponse bits) = []
 kept_of (frames.ConnectionClose code type reason) = []

@@ -7,6 +7,7 @@ pub mod First
 pub mod Flight
 pub mod Forms
 pub mod Headline
+pub mod Ids
 pub mod Keys
 pub mod Life
 pub mod Lower

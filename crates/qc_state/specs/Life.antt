@@ -119,6 +119,15 @@ lost_reported v = record v { lost = None }
 unfoldable pub token_learned : Life → SocketAddr → List ℕ → Life
 token_learned v remote token = record v { notices = v.notices ++ endpoint.ResetToken remote token ∷ [] }
 
+-- so does one that came with another id of the peer, where one did
+abbrev pub token_told : Life → SocketAddr → Option (List ℕ) → Life
+token_told v remote None = v
+token_told v remote (Some token) = token_learned v remote token
+
+-- the peer retired the id with a number at this time, which waits to be reported behind what waits; `more` says that one more is wanted
+unfoldable pub retirement_told : Life → (time sequence : ℕ) → (more : Bool) → Life
+retirement_told v time sequence more = record v { notices = v.notices ++ endpoint.RetireConnectionId time sequence more ∷ [] }
+
 -- so many identifiers are wanted at this time, which waits to be reported behind what waits
 unfoldable pub identifiers_wanted : Life → (time count : ℕ) → Life
 identifiers_wanted v time count = record v { notices = v.notices ++ endpoint.NeedIdentifiers time count ∷ [] }

@@ -1,5 +1,5 @@
 -- The layers below: the session, the bytes of the three CRYPTO streams that came and weren't given to it (RFC 9000, section 19.6;
--- RFC 9001, section 4), and what loss recovery keeps of the packets (RFC 9002; of the path it is Paths'), and the streams and datagrams of the application. Each changes by its own steps alone.
+-- RFC 9001, section 4), and what loss recovery keeps of the packets (RFC 9002; of the path it is Paths'), the streams and datagrams of the application, and the connection ids of both ends. Each changes by its own steps alone.
 use Rattle.std.specs.Prelude.{ℕ, suc, ◌==◌, if◌then◌else◌, List, [], ◌∷◌, length, Option, None, Some}
 use Rattle.qc_assembler.specs.Assembly.{Assembly, advanced, inserted}
 use Rattle.qc_base.specs.declared.side.SpaceId.{SpaceId}
@@ -12,8 +12,11 @@ use Rattle.qc_params.specs.declared.params.TransportParameters.{TransportParamet
 use Rattle.qc_streams.specs.Waits.{Step, Closed, LimitsKnown, after}
 use Rattle.qc_state.specs.Spaces.{space_of, with_space}
 use Rattle.qc_base.specs.declared.transport_error.TransportError.{TransportError}
+use Rattle.qc_cids.specs.Steps as ids
 use Rattle.qc_datagrams.specs.Steps as datagrams
-use Rattle.qc_state.specs.Datagrams.{datagram_steps, datagram_stop}
+use Rattle.qc_state.specs.Datagrams.{datagram_steps, datagram_stop, sealed_datagrams}
+use Rattle.qc_state.specs.Ids.{learned_cids, sealed_cids}
+use Rattle.qc_state.specs.StreamFrames.{sealed_steps}
 use Rattle.qc_state.specs.Streams.{events_of, limits_of, steps_of_frame, streams_stop, asked_for}
 
 -- the bytes at the front of those that came, up to the first that is missing; the first one is wanted at o
@@ -71,6 +74,14 @@ module _ {S : Type 0} where
   unfoldable pub datagrams_stepped : List datagrams.Step → Lower S → Lower S
   datagrams_stepped xs l = record l { datagrams = datagrams.after xs l.datagrams }
 
+  -- the connection ids of both ends made these steps of their own
+  unfoldable pub ids_stepped : List ids.Step → Lower S → Lower S
+  ids_stepped xs l = record l { ids = ids.after xs l.ids }
+
+  -- frames were sealed, each a step of that layer whose frame it is
+  unfoldable pub frames_sealed : List FrameValue → Lower S → Lower S
+  frames_sealed fs l = ids_stepped (sealed_cids fs) (datagrams_stepped (sealed_datagrams fs) (streams_stepped (sealed_steps fs) l))
+
   -- streams and datagrams were handed a frame, which that layer whose frame it is may refuse
   unfoldable pub frame_handed : FrameValue → Lower S → Lower S
   frame_handed frame l = datagrams_stepped (datagram_steps frame) (streams_stepped (steps_of_frame frame l.streams) l)
@@ -79,9 +90,9 @@ module _ {S : Type 0} where
   unfoldable pub handed_stop : FrameValue → Lower S → Option TransportError
   handed_stop frame l = first_of (streams_stop frame l.streams) (datagram_stop frame l.datagrams)
 
-  -- the peer's limits are known
+  -- the peer's limits are known, and the id that it named with an address, if it did
   unfoldable pub limits_learned : TransportParameters → Lower S → Lower S
-  limits_learned parameters l = streams_stepped (LimitsKnown (limits_of parameters) ∷ []) l
+  limits_learned parameters l = ids_stepped (learned_cids parameters) (streams_stepped (LimitsKnown (limits_of parameters) ∷ []) l)
 
   -- the connection isn't open any more
   unfoldable pub streams_closed : Lower S → Lower S

@@ -20,6 +20,13 @@ use Rattle.qc_state.specs.declared.life.ConnectionError.{ConnectionError}
 use Rattle.qc_state.specs.declared.paths.Paths.{Paths}
 use Rattle.qc_state.specs.declared.timers.Timers.{Timers}
 use Rattle.qc_params.specs.declared.params.TransportParameters.{TransportParameters}
+use Rattle.qc_base.specs.declared.ids.IssuedCid.{IssuedCid}
+use Rattle.qc_cids.specs.Cids.{asks_one, give_refusal, next_token, token_by}
+use Rattle.qc_cids.specs.Steps as ids
+use Rattle.qc_frame.specs.declared.frames.NewConnectionId.{NewConnectionId}
+use Rattle.qc_ids.specs.CidQueue.{active_of}
+use Rattle.qc_ids.specs.Expiries.{oldest_time}
+use Rattle.qc_ids.specs.LocalCids.{may_retire}
 use Rattle.qc_path.specs.Acks.{next_bundle}
 use Rattle.qc_path.specs.Arrived.{arrived}
 use Rattle.qc_path.specs.RoundTrips.{estimate}
@@ -37,14 +44,15 @@ use Rattle.qc_state.specs.declared.deeds.Verdict.TheVariants as verdict
 use Rattle.qc_recovery.specs.Steps.{After, FiredAfter, path_dropped}
 use Rattle.qc_state.specs.Acks.{is_ack}
 use Rattle.qc_state.specs.Draws.{word}
-use Rattle.qc_state.specs.Life.{rank_of, is_open, is_closed, is_drained, reason_given, life_raised, life_closed, life_drained, life_established, data_ready, token_learned, identifiers_wanted, ready_reported, connected_reported, datagram_heard, heard_reported, all_heard_reported, lost_reported, notice_reported, notices_reported, drained_reported}
+use Rattle.qc_state.specs.Life.{rank_of, is_open, is_closed, is_drained, reason_given, life_raised, life_closed, life_drained, life_established, data_ready, token_learned, identifiers_wanted, retirement_told, token_told, ready_reported, connected_reported, datagram_heard, heard_reported, all_heard_reported, lost_reported, notice_reported, notices_reported, drained_reported}
 use Rattle.qc_state.specs.Numbers.{next_number, received_number, number_used, number_skipped, is_skipped, is_new_in, came_in, number_entered, number_accepted, number_acked}
 use Rattle.qc_state.specs.Forms.{is_early, number_space}
 use Rattle.qc_state.specs.Keys.{NewKeys, NoKeys, HandshakeKeys, DataKeys, epoch_in, has_keys_for, key_used, failure_counted, keys_given, keys_dropped}
 use Rattle.qc_state.specs.Flight.{flown_packet}
-use Rattle.qc_state.specs.Lower.{bytes_came, session_read, session_wrote, flight_dropped, packet_flown, packets_settled, timer_fired, streams_stepped, datagrams_stepped, frame_handed, limits_learned, streams_closed, event_told, events_told}
+use Rattle.qc_state.specs.Ids.{active_limit, fired_ids, lost_ids}
+use Rattle.qc_state.specs.Lower.{bytes_came, frames_sealed, ids_stepped, session_read, session_wrote, flight_dropped, packet_flown, packets_settled, timer_fired, streams_stepped, datagrams_stepped, frame_handed, limits_learned, streams_closed, event_told, events_told}
 use Rattle.qc_state.specs.Offers.{packet_begun}
-use Rattle.qc_state.specs.Paths.{is_blocked, path_idle, path_sent, path_received, path_accepted, path_kept, path_spun, peer_fixed}
+use Rattle.qc_state.specs.Paths.{is_blocked, path_idle, path_sent, path_received, path_accepted, path_kept, path_named, path_spun, peer_fixed}
 use Rattle.qc_state.specs.Recovering.{loss_time, probe_timeout_now}
 use Rattle.qc_state.specs.Setup.{idle_limit_now, packet_drawn, parameters_known, peer_delay, token_expected, word_drawn}
 use Rattle.qc_state.specs.Spaces.{is_space}
@@ -54,7 +62,7 @@ use Rattle.qc_streams.specs.Steps.{AllMay, MayStep}
 use Rattle.qc_streams.specs.Waits as streams
 use Rattle.qc_datagrams.specs.Steps as datagrams
 use Rattle.qc_state.specs.Datagrams.{tells_datagram}
-use Rattle.qc_state.specs.Timers.{timers_sealed, timers_acking, timers_stopped, timers_closing, timers_accepted, timers_holding, timers_paced, timers_released, timers_armed, clock_set}
+use Rattle.qc_state.specs.Timers.{timers_sealed, timers_acking, timers_stopped, timers_closing, timers_accepted, timers_holding, timers_paced, timers_released, timers_issued, timers_outlived, timers_armed, clock_set}
 use Rattle.qc_state.specs.Types.{Types}
 use Rattle.qc_state.specs.View.{View, At, at}
 use Rattle.qc_state.specs.Waiting.{ping_asked, done_asked, waiting_without, close_begun, packet_told, packet_came, packets_acked, packets_lost, fired_in, crypto_written, space_left, holds_back, ack_released, bundle_next}
@@ -128,6 +136,7 @@ abbrev pub is_post : datagrams.Step → Bool
 is_post (datagrams.Came d) = false
 is_post datagrams.Taken = true
 is_post (datagrams.Sent most d) = true
+is_post datagrams.Sealed = false
 
 -- the deeds, told one after another
 abbrev pub told : List Did → List Did → List Did
@@ -179,6 +188,11 @@ pub data Move (t : Types) : Type 0 where
   Finish : (bytes : ℕ) → Move t  -- a transmit ends that sealed packets: so many bytes go to the path's address
   Say : (quiet : Quiet) → Move t  -- a transmit sends nothing, for this cause
   Hand : (frame : FrameValue) → Move t  -- the streams or the datagrams are handed a frame, which they may refuse
+  Insert : (new : NewConnectionId) → Move t  -- the ids are handed a NEW_CONNECTION_ID, which they may refuse
+  Switch : Move t  -- packets to the peer carry the next of its ids from then on
+  Retire : (time sequence : ℕ) → Move t  -- the ids are handed a RETIRE_CONNECTION_ID, which they may refuse
+  Issue : (time : ℕ) → (given : List IssuedCid) → Move t  -- ids of this end are given
+  Outlive : Move t  -- the oldest ids of this end have grown old
   Call : (step : streams.Step) → Move t  -- the application makes a call of the streams, which is this step of theirs
   ReportReady : Move t  -- that the handshake's data is ready is reported
   ReportConnected : Move t  -- that the handshake is over is reported
@@ -216,6 +230,10 @@ module _ {t : Types} where
   life_move Establish s = life_established s.life
   life_move (Token token) s = token_learned s.life s.paths.current.remote token
   life_move (Want time count) s = identifiers_wanted s.life time count
+  life_move (Insert new) s = token_told s.life s.paths.current.remote (token_by new s.lower.ids.remote)
+  life_move Switch s = token_told s.life s.paths.current.remote (next_token s.lower.ids.remote)
+  life_move (Retire time n) s =
+      if may_retire n s.lower.ids.local then retirement_told s.life time n (asks_one (active_limit s.setup.peer) n s.lower.ids) else s.life
   life_move (Raise to) s = life_raised s.life to
   life_move (Hand frame) s = datagram_heard (tells_datagram frame s.lower.datagrams) s.life
   life_move (Give why) s = reason_given s.life why
@@ -232,6 +250,9 @@ module _ {t : Types} where
   unfoldable pub paths_move : Move t → View t → Paths t.C
   paths_move (Finish bytes) s = path_sent s.paths bytes
   paths_move (Fix cid) s = peer_fixed s.paths cid
+  paths_move (Insert new) s = path_named s.paths (active_of (ids.after_step (ids.NewCame new) s.lower.ids).remote)
+  paths_move Switch s = path_named s.paths (active_of (ids.after_step ids.Switched s.lower.ids).remote)
+  paths_move (Learn parameters) s = path_named s.paths (active_of (limits_learned parameters s.lower).ids.remote)
   paths_move (Accept time id n e g v) s = path_spun (path_accepted s.paths id v) s.setup.fixed.side (nat_le (received_number s.numbers id) n) g.spin
   paths_move (Hear bytes) s = path_received s.paths bytes
   paths_move (Forget id) s = path_kept s.paths (path_dropped id s.paths.current.kept)
@@ -250,6 +271,9 @@ module _ {t : Types} where
   timers_move Pace s = timers_paced s.timers
   timers_move Release s = timers_released s.timers
   timers_move (Arm at) s = timers_armed s.timers at
+  timers_move (Issue time given) s =
+      if is_drained s.life.state then s.timers else timers_issued s.timers (oldest_time (ids.after_step (ids.Given given time) s.lower.ids).local.expiries) time
+  timers_move Outlive s = timers_outlived s.timers
   timers_move (Shut time close) s = timers_closing s.timers (probe_timeout_now s s.keys.highest) time
   timers_move (PeerCloses time) s = timers_closing s.timers (probe_timeout_now s s.keys.highest) time
   timers_move (Raise to) s = timers_stopped s.timers
@@ -281,11 +305,18 @@ module _ {t : Types} where
 
   unfoldable pub lower_move : Move t → View t → Lower t.S
   lower_move (Seal time form n size fs) s = if s.waiting.close_owed then s.lower else packet_flown s.lower (number_space form) n (flown_packet time size fs)
-  lower_move (Take id fs) s = streams_stepped (sealed_steps fs) s.lower
+  lower_move (Take id fs) s = frames_sealed fs s.lower
   lower_move (Begin id opens) s = (packet_begun id opens s).lower
   lower_move (Forget id) s = flight_dropped s.lower id
-  lower_move (Ack id n r) s = streams_stepped (acked_steps r.acked ++ lost_steps r.lost) (packets_settled s.lower r)
-  lower_move (Fire r) s = streams_stepped (fired_steps r.fired) (timer_fired s.lower r)
+  lower_move (Ack id n r) s = ids_stepped (lost_ids r.lost) (streams_stepped (acked_steps r.acked ++ lost_steps r.lost) (packets_settled s.lower r))
+  lower_move (Fire r) s = ids_stepped (fired_ids r.fired) (streams_stepped (fired_steps r.fired) (timer_fired s.lower r))
+  lower_move (Fix cid) s = ids_stepped (ids.Renamed cid ∷ []) s.lower
+  lower_move (Want time count) s = ids_stepped (ids.Asked count ∷ []) s.lower
+  lower_move (Insert new) s = ids_stepped (ids.NewCame new ∷ []) s.lower
+  lower_move Switch s = ids_stepped (ids.Switched ∷ []) s.lower
+  lower_move (Retire time n) s = ids_stepped (ids.RetireCame (active_limit s.setup.peer) n ∷ []) s.lower
+  lower_move (Issue time given) s = ids_stepped (ids.Given given time ∷ []) s.lower
+  lower_move Outlive s = ids_stepped (ids.Expired ∷ []) s.lower
   lower_move (Come id offset bytes) s = bytes_came s.lower id offset bytes
   lower_move (Read id count session) s = session_read s.lower id count session
   lower_move (Write bytes keys session) s = session_wrote s.lower session
@@ -308,6 +339,8 @@ module _ {t : Types} where
   deeds_move Establish s = did.Rose 1 ∷ []
   deeds_move (Tell d) s = d ∷ []
   deeds_move (Hand frame) s = told_to_streams frame
+  deeds_move (Insert new) s = did.Gave layer.Ids (spelling (frames.NewConnectionId new)) ∷ []
+  deeds_move (Retire time n) s = did.Gave layer.Ids (spelling (frames.RetireConnectionId n)) ∷ []
   deeds_move (Shut time close) s = did.Rose 2 ∷ []
   deeds_move (PeerCloses time) s = did.Rose 3 ∷ []
   deeds_move PeerClosesToo s = did.Rose 3 ∷ []
@@ -348,6 +381,7 @@ module _ {t : Types} where
   MayMove Establish s = rank_of s.life.state < 1
   MayMove (Tell d) s = IsTold d
   MayMove (Post x) s = is_post x ≡ true
+  MayMove (Issue time given) s = give_refusal given s.lower.ids ≡ None
   MayMove (Call x) s = (is_call x ≡ true) × MayStep x s.lower.streams
   MayMove (Shut time close) s = rank_of s.life.state < 2
   MayMove (PeerCloses time) s = rank_of s.life.state < 3

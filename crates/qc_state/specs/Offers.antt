@@ -1,18 +1,24 @@
--- What waits in a space, over all layers: frames that the waiting group keeps, and those that a layer below offers in its own words. So far
--- the streams do.
-use Rattle.std.specs.Prelude.{Bool, false, ◌||◌, not, ◌==◌, if◌then◌else◌, List, [], ◌++◌, Option, None, Some}
+-- What waits in a space, over all layers: frames that the waiting group keeps, and those that a layer below offers in its own words: the
+-- streams, the datagrams of the application, and the connection ids.
+use Rattle.std.specs.Prelude.{ℕ, ◌+◌, ◌-◌, Bool, false, ◌||◌, not, ◌==◌, if◌then◌else◌, List, [], ◌++◌, length, Option, None, Some}
+use Rattle.qc_base.specs.PacketNumber.{number_len, number_of}
+use Rattle.qc_cids.specs.Steps as ids
 use Rattle.qc_base.specs.declared.side.SpaceId.{SpaceId}
 use Rattle.qc_flight.specs.Packets.{first_of}
 use Rattle.qc_flight.specs.declared.sent.SentPacket.{SentPacket}
 use Rattle.qc_recovery.specs.Steps as recovery
 use Rattle.qc_base.specs.declared.side.SpaceId.TheVariants.{«Data»}
 use Rattle.qc_state.specs.Acks.{is_ack_owed}
-use Rattle.qc_state.specs.Lower.{streams_stepped}
+use Rattle.qc_state.specs.Datagrams.{first_fits}
+use Rattle.qc_state.specs.Ids.{again_ids, ids_want, lost_cids}
+use Rattle.qc_state.specs.Lower.{ids_stepped, streams_stepped}
+use Rattle.qc_state.specs.Numbers.{acked_number, coming_number}
 use Rattle.qc_state.specs.StreamFrames.{filed_steps, packet_lost}
 use Rattle.qc_streams.specs.Pending.{has_control, has_waiting}
 use Rattle.qc_streams.specs.Waits.{Step}
 use Rattle.qc_streams.specs.declared.state.StreamsState.{StreamsState}
 use Rattle.qc_state.specs.Spaces.{space_of}
+use Rattle.qc_state.specs.declared.transmit.TheConstants.{DATAGRAM_SIZE}
 use Rattle.qc_state.specs.Types.{Types}
 use Rattle.qc_state.specs.View.{View}
 use Rattle.qc_state.specs.Waiting.{frames_again, ping_asked, probe_spent, wants_here}
@@ -28,13 +34,28 @@ streams_want «Data» s = has_waiting s || has_control s
 streams_want _ s = false
 
 module _ {t : Types} where
-  -- a frame waits in the space that elicits an acknowledgement: one of its own, or one of the streams, whose frames go in 1-RTT packets
+  -- a frame waits in the space that elicits an acknowledgement, DATAGRAMs aside: one of its own, or one of the streams or of the connection
+  -- ids, whose frames go in 1-RTT packets
   unfoldable pub wants_sending : View t → SpaceId → Bool
-  wants_sending s id = wants_here (space_of s.waiting.spaces id) || streams_want id s.lower.streams
+  wants_sending s id = wants_here (space_of s.waiting.spaces id) || (streams_want id s.lower.streams || ids_want id s.lower.ids)
 
-  -- something waits there: such a frame, an ACK that is owed, or a probe that is due
+  -- how many bytes a datagram to the path may have: so far 1200 on every path (RFC 9000, section 14)
+  abbrev pub path_size : View t → ℕ
+  path_size s = DATAGRAM_SIZE
+
+  -- how much room for frames a datagram of the path has, behind the header of a 1-RTT packet with the number that comes next, and before
+  -- its tag of 16 bytes (RFC 9000, section 17.3.1)
+  unfoldable pub datagram_room : View t → ℕ
+  datagram_room s = path_size s - 16 - (1 + length s.paths.current.remote_cid + number_len (number_of (coming_number s.numbers «Data») (acked_number s.numbers «Data»)))
+
+  -- a DATAGRAM waits in the space, whose frames go in 1-RTT packets: the first one fits alone into a datagram of the path
+  unfoldable pub datagram_waits : SpaceId → View t → Bool
+  datagram_waits «Data» s = first_fits (datagram_room s) s.lower.datagrams.outgoing
+  datagram_waits _ s = false
+
+  -- something waits there: such a frame, a DATAGRAM, an ACK that is owed, or a probe that is due
   unfoldable pub waits_in : View t → SpaceId → Bool
-  waits_in s id = wants_sending s id || is_ack_owed (space_of s.waiting.spaces id).acks || not ((space_of s.waiting.spaces id).probes == 0)
+  waits_in s id = wants_sending s id || datagram_waits id s || is_ack_owed (space_of s.waiting.spaces id).acks || not ((space_of s.waiting.spaces id).probes == 0)
 
   -- the oldest packet of the space that is in flight
   abbrev pub oldest_in : View t → SpaceId → Option SentPacket
@@ -43,14 +64,14 @@ module _ {t : Types} where
   -- the frames of a packet wait again in its space, where there is one
   abbrev pub packet_again : SpaceId → Option SentPacket → View t → View t
   packet_again id None s = s
-  packet_again id (Some packet) s = record s { waiting = frames_again s.waiting id packet.frames; lower = streams_stepped (packet_lost packet) s.lower }
+  packet_again id (Some packet) s = record s { waiting = frames_again s.waiting id packet.frames; lower = ids_stepped (lost_cids packet.frames) (streams_stepped (packet_lost packet) s.lower) }
 
-  -- a PING waits where no frame does that elicits an acknowledgement
+  -- a PING waits where no frame does that elicits an acknowledgement, DATAGRAMs aside
   unfoldable pub with_ping : SpaceId → View t → View t
   with_ping id s = if wants_sending s id then s else record s { waiting = ping_asked s.waiting id }
 
-  -- A probe is sent: where no frame waits that elicits an acknowledgement, those of the oldest packet in flight wait again, and where
-  -- it has none, a PING does (RFC 9002, section 6.2.4).
+  -- A probe is sent: where no frame waits that elicits an acknowledgement, DATAGRAMs aside, those of the oldest packet in flight wait again,
+  -- and where it has none, a PING does (RFC 9002, section 6.2.4).
   unfoldable pub probe_sent : SpaceId → View t → View t
   probe_sent id s = with_ping id (if wants_sending s id then s else packet_again id (oldest_in s id) s)
 
@@ -69,6 +90,13 @@ module _ {t : Types} where
   unfoldable pub begun_steps : SpaceId → (opens : Bool) → View t → List Step
   begun_steps id opens s =
       (if (space_of s.waiting.spaces id).probes == 0 then [] else probe_steps id (if opens then record s { waiting = probe_spent s.waiting id } else s)) ++ filed_steps id
+
+  -- the same of the ids
+  unfoldable pub probe_ids : SpaceId → View t → List ids.Step
+  probe_ids id s = if wants_sending s id then [] else again_ids (oldest_in s id)
+
+  unfoldable pub begun_ids : SpaceId → (opens : Bool) → View t → List ids.Step
+  begun_ids id opens s = if (space_of s.waiting.spaces id).probes == 0 then [] else probe_ids id (if opens then record s { waiting = probe_spent s.waiting id } else s)
 
   -- streams that may owe something are looked at, as a packet of 1-RTT is begun
   unfoldable pub streams_filed : SpaceId → View t → View t

@@ -40,6 +40,10 @@ path_received v bytes = record v { current = record v.current { received = plus 
 unfoldable pub peer_fixed : {C : Type 0} → Paths C → List ℕ → Paths C
 peer_fixed v cid = record v { current = record v.current { remote_cid = cid }; peer_cid = Some cid }
 
+-- packets to the peer carry this id from then on: another one of those that it issued (RFC 9000, section 5.1.1)
+unfoldable pub path_named : {C : Type 0} → Paths C → List ℕ → Paths C
+path_named v cid = record v { current = record v.current { remote_cid = cid } }
+
 -- the id that the peer chose, and until then the one that packets to it carry
 abbrev pub chosen_or : (used : List ℕ) → (chosen : Option (List ℕ)) → List ℕ
 chosen_or used None = used

@@ -1,5 +1,5 @@
 -- How the handshake goes on behind the frames of a packet (RFC 9001, sections 4.1 and 8.2; RFC 9000, section 7.3).
-use Rattle.std.specs.Prelude.{ℕ, zero, suc, ◌-◌, min, ◌==◌, ◌&&◌, not, nat_eq, Bool, true, false, if◌then◌else◌, List, length, Option, None, Some, Result, Ok, Err, is_none}
+use Rattle.std.specs.Prelude.{ℕ, zero, suc, ◌-◌, ◌==◌, ◌&&◌, not, nat_eq, Bool, true, false, if◌then◌else◌, List, length, Option, None, Some, Result, Ok, Err, is_none}
 use Rattle.std.specs.Cmp.Lexicographic.{pointwise}
 use Rattle.qc_base.specs.declared.side.Side.{Side}
 use Rattle.qc_base.specs.declared.side.Side.TheVariants.{Client, Server}
@@ -10,6 +10,7 @@ use Rattle.qc_crypto.specs.declared.keys.KeyPair.{KeyPair}
 use Rattle.qc_crypto.specs.declared.keys.Keys.{Keys}
 use Rattle.qc_params.specs.declared.params.TransportParameters.{TransportParameters}
 use Rattle.qc_state.specs.Keys.{NewKeys, NoKeys, HandshakeKeys, DataKeys, new_keys, new_ring}
+use Rattle.qc_state.specs.Ids.{active_limit}
 use Rattle.qc_state.specs.Life.{is_handshake}
 use Rattle.qc_state.specs.Moves.{Write, Token, Learn, Want, Confirm, Forget, Establish, armed_after, move_to}
 use Rattle.qc_state.specs.Stopping.{missing_parameters, parameter_error, stopped_after}
@@ -89,12 +90,12 @@ module _ {t : Types} where
   token_after Client (Some token) a = move_to (Token token) a
   token_after _ _ a = a
 
-  -- the peer's parameters count from now on, and identifiers are wanted: as many as the peer takes, 8 at most, less the one that
-  -- stands already, where this end's ids aren't empty (RFC 9000, section 5.1.1)
+  -- the peer's parameters count from now on, and identifiers are wanted: as many as the peer takes, 8 at most, less those that were
+  -- issued with the handshake, where this end's ids aren't empty (RFC 9000, section 5.1.1)
   unfoldable pub learned_with : (time : ℕ) → TransportParameters → At t → At t
   learned_with time p a =
       let b : At t = move_to (Learn p) a in
-      if length a.state.setup.fixed.local_cid == 0 then b else move_to (Want time (min p.active_connection_id_limit 8 - 1)) b
+      if length a.state.setup.fixed.local_cid == 0 then b else move_to (Want time (active_limit (Some p) - a.state.lower.ids.local.issued)) b
 
   -- The peer's parameters, as the session gives them; `others` comes behind where they can be read and their ids fit. A server's
   -- token counts also where the ids don't fit.

@@ -15,6 +15,7 @@ use Rattle.qc_frame.specs.Frame.{FrameValue, AckValue, TypedValue}
 use Rattle.qc_frame.specs.FrameSpelling.{elicits, spelling}
 use Rattle.qc_frame.specs.Payload.{Item, items_of}
 use Rattle.qc_frame.specs.declared.frames.FrameOf.TheVariants as frames
+use Rattle.qc_frame.specs.declared.frames.NewConnectionId.{NewConnectionId}
 use Rattle.qc_header.specs.HeaderGrammar.{DatagramItem}
 use Rattle.qc_header.specs.HeaderReading.{piece_at}
 use Rattle.qc_header.specs.declared.protected.ProtectedHeader.{ProtectedHeader}
@@ -35,8 +36,9 @@ use Rattle.qc_state.specs.declared.opening.Opening.TheVariants.{Unreadable, Unop
 use Rattle.qc_state.specs.Acks.{acknowledges_any}
 use Rattle.qc_state.specs.Keys.{fails_too_often}
 use Rattle.qc_state.specs.Life.{is_open, is_over, is_handshake, is_established}
+use Rattle.qc_state.specs.Ids.{insert_stop, retire_stop, switches_for}
 use Rattle.qc_state.specs.Lower.{handed_stop, ready_bytes, stream_of}
-use Rattle.qc_state.specs.Moves.{is_close, Forget, Expect, Enter, Fail, Accept, Fix, Hand, Hear, Ack, Come, Read, Ready, Tell, PeerClosesToo, PeerCloses, Owe, move_to, armed_after}
+use Rattle.qc_state.specs.Moves.{is_close, Forget, Expect, Enter, Fail, Accept, Fix, Hand, Hear, Insert, Retire, Switch, Ack, Come, Read, Ready, Tell, PeerClosesToo, PeerCloses, Owe, move_to, armed_after}
 use Rattle.qc_state.specs.Numbers.{next_number}
 use Rattle.qc_state.specs.Opening.{opening_of}
 use Rattle.qc_recovery.specs.Steps.{After}
@@ -68,8 +70,8 @@ done_stop Client = None
 done_stop Server = Some (violation_at None)
 
 -- The same in a 1-RTT packet that an end of this side receives, which skipped the number `skipped` last: an ACK of that number
--- stops it too (RFC 9000, section 21.4), and frames of kinds that aren't taken so far stop it with INTERNAL_ERROR. Those about streams,
--- and DATAGRAM, don't by their kind.
+-- stops it too (RFC 9000, section 21.4), and frames of kinds that aren't taken so far stop it with INTERNAL_ERROR. Those about streams and
+-- connection ids, and DATAGRAM, don't by their kind.
 abbrev pub data_stop : Side → (next : ℕ) → (skipped : Option ℕ) → (type : ℕ) → FrameValue → Option TransportError
 data_stop side next skipped type frames.Padding = None
 data_stop side next skipped type frames.Ping = None
@@ -88,6 +90,8 @@ data_stop side next skipped type (frames.DataBlocked limit) = None
 data_stop side next skipped type (frames.StreamDataBlocked id limit) = None
 data_stop side next skipped type (frames.StreamsBlocked dir limit) = None
 data_stop side next skipped type (frames.Datagram body) = None
+data_stop side next skipped type (frames.NewConnectionId new) = None
+data_stop side next skipped type (frames.RetireConnectionId sequence) = None
 data_stop side next skipped type _ = Some (internal_error_at (Some type))
 
 -- by the space of the packet
@@ -252,6 +256,19 @@ module _ {t : Types} where
   unfoldable pub handed_after : (time : ℕ) → FrameValue → At t → Behind t
   handed_after time frame a = refused_after time (handed_stop frame a.state.lower) (move_to (Hand frame) a)
 
+  -- a server that the peer gave an id besides that of its first packets takes it into use, where that one is in use still
+  abbrev pub switched_after : Bool → At t → At t
+  switched_after switches a = if switches then move_to Switch a else a
+
+  -- the ids are handed a NEW_CONNECTION_ID, refused or not (RFC 9000, section 19.15)
+  unfoldable pub inserted_after : (time : ℕ) → NewConnectionId → At t → Behind t
+  inserted_after time new a =
+      ended_by time (insert_stop new a.state.lower.ids) (λ b. Goes (switched_after (switches_for a.state.setup.fixed.side new a.state.lower.ids) b)) (move_to (Insert new) a)
+
+  -- the ids are handed a RETIRE_CONNECTION_ID, refused or not (RFC 9000, section 19.16)
+  unfoldable pub retired_after : (time sequence : ℕ) → At t → Behind t
+  retired_after time n a = refused_after time (retire_stop n a.state.lower.ids) (move_to (Retire time n) a)
+
   -- What a frame does that its kind doesn't stop: a row for each kind that does something. The frames of kinds that do nothing have
   -- the last row: PADDING, PING and DATA_BLOCKED, and in this place those that stop every packet so far.
   unfoldable pub applied_after : Meaning t → Coming → SpaceId → FrameValue → At t → Behind t
@@ -271,6 +288,8 @@ module _ {t : Types} where
   applied_after m coming id (frames.StreamDataBlocked stream limit) a = handed_after coming.time (frames.StreamDataBlocked stream limit) a
   applied_after m coming id (frames.StreamsBlocked dir limit) a = handed_after coming.time (frames.StreamsBlocked dir limit) a
   applied_after m coming id (frames.Datagram body) a = handed_after coming.time (frames.Datagram body) a
+  applied_after m coming id (frames.NewConnectionId new) a = inserted_after coming.time new a
+  applied_after m coming id (frames.RetireConnectionId sequence) a = retired_after coming.time sequence a
   applied_after m coming id _ a = Goes a
 
   -- a frame, which stops its packet by its kind, or does what its kind does

@@ -2,7 +2,7 @@
 use Rattle.std.specs.Prelude.{◌≡◌, ℕ, ◌+◌, ◌≤◌, true, List, [], ◌∷◌, ◌++◌, length, take, if◌then◌else◌, Option, Some, None}
 use Rattle.qc_state.specs.declared.life.Close.TheVariants.{Application}
 use Rattle.qc_state.specs.declared.input.Input.{Input}
-use Rattle.qc_state.specs.declared.input.Input.TheVariants.{Datagram, Timeout, Transmit, Open, Accept, Write, Finish, ResetSend, StopRecv, Read, SendDatagram, RecvDatagram, MaxStreams, SendWindow, ReceiveWindow, Close, Ping}
+use Rattle.qc_state.specs.declared.input.Input.TheVariants.{Datagram, Timeout, Transmit, Open, Accept, Write, Finish, ResetSend, StopRecv, Read, SendDatagram, RecvDatagram, MaxStreams, SendWindow, ReceiveWindow, Identifiers, Close, Ping}
 use Rattle.qc_state.specs.declared.input.Word.{Word}
 use Rattle.qc_state.specs.declared.input.Word.TheVariants as word
 use Rattle.qc_state.specs.declared.trace.Answer.{Answer}
@@ -10,10 +10,12 @@ use Rattle.qc_state.specs.declared.trace.Answer.TheVariants.{Done, Dropped, Noth
 use Rattle.qc_state.specs.declared.trace.Step.{Step}
 use Rattle.qc_state.specs.declared.transmit.Transmit as transmit
 use Rattle.qc_state.specs.Life.{is_open}
-use Rattle.qc_state.specs.Moves.{Clock, Ask, Call, Post, Shut, ReportReady, ReportConnected, ReportAllHeard, ReportStreams, ReportLost, ReportNotices, ReportDrained, move_to, state_move}
+use Rattle.qc_state.specs.Moves.{Clock, Ask, Call, Issue, Post, Shut, ReportReady, ReportConnected, ReportAllHeard, ReportStreams, ReportLost, ReportNotices, ReportDrained, move_to, state_move}
 use Rattle.qc_state.specs.Polls.{waiting_events, endpoint_events}
 use Rattle.qc_state.specs.Receiving.{is_taken, datagram_after}
-use Rattle.qc_state.specs.Sending.{Choice, MayTransmit, path_size, transmit_after, transmit_bytes, transmit_of}
+use Rattle.qc_state.specs.Offers.{path_size}
+use Rattle.qc_state.specs.Sending.{Choice, MayTransmit, transmit_after, transmit_bytes, transmit_of}
+use Rattle.qc_cids.specs.Cids.{give_refusal}
 use Rattle.qc_datagrams.specs.Datagrams.{send_refusal}
 use Rattle.qc_datagrams.specs.Size.{max_size}
 use Rattle.qc_datagrams.specs.Steps as datagrams
@@ -44,6 +46,7 @@ time_of (RecvDatagram time) = time
 time_of (MaxStreams time dir count) = time
 time_of (SendWindow time size) = time
 time_of (ReceiveWindow time size) = time
+time_of (Identifiers time ids) = time
 
 -- its kind
 abbrev pub word_of : Input → Word
@@ -64,6 +67,7 @@ word_of (RecvDatagram time) = word.RecvDatagram
 word_of (MaxStreams time dir count) = word.MaxStreams
 word_of (SendWindow time size) = word.SendWindow
 word_of (ReceiveWindow time size) = word.ReceiveWindow
+word_of (Identifiers time ids) = word.Identifiers
 
 -- what a transmit answers
 abbrev pub out_of : Option transmit.Transmit → List ℕ → Answer
@@ -98,6 +102,7 @@ module _ {t : Types} where
   input_after m (Ping time) choice a = move_to (Ask a.state.keys.highest) a
   input_after m (SendDatagram time body) choice a = move_to (Post (datagrams.Sent (datagram_limit a.state) body)) a
   input_after m (RecvDatagram time) choice a = move_to (Post datagrams.Taken) a
+  input_after m (Identifiers time ids) choice a = move_to (Issue time ids) a
   input_after m i choice a = called_all (calls_of i choice.read a.state.lower.streams) a
 
   unfoldable pub called : Meaning t → View t → Input → Choice → At t
@@ -114,6 +119,7 @@ module _ {t : Types} where
   -- what an input may do, once its call has begun
   unfoldable pub IsAllowed : Meaning t → Input → Choice → At t → Type 0
   IsAllowed m (Transmit time max) choice a = MayTransmit m time choice a
+  IsAllowed m (Identifiers time ids) choice a = give_refusal ids a.state.lower.ids ≡ None
   IsAllowed m i choice a = MayRead i choice.read a.state.lower.streams
 
   -- what an input answers

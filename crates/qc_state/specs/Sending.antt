@@ -45,7 +45,7 @@ use Rattle.qc_state.specs.Draws.{bit}
 use Rattle.qc_state.specs.Flight.{counts_in_flight}
 use Rattle.qc_state.specs.Moves.{Begin, Skip, Seal, Take, Forget, Finish, Say, move_to, armed_with}
 use Rattle.qc_state.specs.Numbers.{next_number, coming_number, is_skipped, acked_number}
-use Rattle.qc_state.specs.Offers.{waits_in, wants_sending}
+use Rattle.qc_state.specs.Offers.{datagram_waits, path_size, waits_in, wants_sending}
 use Rattle.qc_state.specs.Paths.{is_blocked}
 use Rattle.qc_state.specs.Spaces.{is_space, space_of}
 use Rattle.qc_state.specs.Setup.{behind_spin, takes_grease}
@@ -316,7 +316,7 @@ module _ {t : Types} where
   -- an ACK is all that is owed in a space, and has more bytes than there is room for behind the header, with its token
   pub record LacksAckRoom (time : ℕ) (s : View t) (id : SpaceId) (room : ℕ) : Type 0 where
     pub owed : is_ack_owed (space_of s.waiting.spaces id).acks ≡ true
-    pub alone : wants_sending s id ≡ false
+    pub alone : (wants_sending s id || datagram_waits id s) ≡ false
     pub ack : AckValue
     pub says : SaysAck time (space_of s.waiting.spaces id) ack
     pub long : room < length (frames_spelling (frames.Ack ack ∷ []))
@@ -444,10 +444,6 @@ module _ {t : Types} where
   ending_after time Went b a = finished_after time b a
   ending_after time (Hushed quiet) b a = move_to (Say quiet) a
   ending_after time (Died why) b a = move_to (Say Killed) (killed_after why a)
-
-  -- how many bytes a datagram to the path may have: so far 1200 on every path (RFC 9000, section 14)
-  abbrev pub path_size : View t → ℕ
-  path_size s = DATAGRAM_SIZE
 
   -- a transmit begins
   abbrev pub going_from : At t → Going t

@@ -71,4 +71,5 @@ event_text (Stream event) = stream_event_text event
 unfoldable pub endpoint_text : EndpointEvent → List ℕ
 endpoint_text (endpoint.ResetToken remote token) = codes "stateless reset token " ++ (token_text token ++ (codes " of " ++ socket_text remote))
 endpoint_text (endpoint.NeedIdentifiers time count) = decimal count ++ codes " identifiers needed"
+endpoint_text (endpoint.RetireConnectionId time sequence more) = codes "identifier " ++ (decimal sequence ++ codes " retired")
 endpoint_text endpoint.Drained = codes "drained"

@@ -1,6 +1,6 @@
 -- The streams of the application as a layer with steps of its own (RFC 9000, sections 2 to 4): which frames they are handed, why they
 -- refuse one, and which of their steps a call is. What a step makes of them stands with the streams, and is opened nowhere here.
-use Rattle.std.specs.Prelude.{◌≡◌, ℕ, zero, suc, ◌^◌, nat_lt, Bool, true, false, ◌&&◌, ◌||◌, not, if◌then◌else◌, List, [], ◌∷◌, ◌++◌, length, Option, None, Some, option_map, is_some, Result, Ok, Err}
+use Rattle.std.specs.Prelude.{ℕ, zero, suc, ◌^◌, nat_lt, Bool, true, false, ◌||◌, not, if◌then◌else◌, List, [], ◌∷◌, ◌++◌, length, Option, None, Some, option_map, is_some, Result, Ok, Err}
 use Rattle.qc_base.specs.declared.side.Dir.TheVariants.{Bi, Uni}
 use Rattle.qc_base.specs.declared.side.Side.{Side}
 use Rattle.qc_base.specs.declared.transport_error.TransportError.{TransportError}
@@ -29,7 +29,6 @@ use Rattle.qc_state.specs.declared.input.Input.{Input}
 use Rattle.qc_state.specs.declared.input.Input.TheVariants as input
 use Rattle.qc_state.specs.declared.trace.Answer.{Answer}
 use Rattle.qc_state.specs.declared.trace.Answer.TheVariants as answer
-use Rattle.qc_state.specs.declared.trace.Refusal.{Refusal}
 use Rattle.qc_state.specs.declared.trace.Refusal.TheVariants as refusal
 
 -- ---- frames

@@ -7,7 +7,15 @@ use Rattle.qc_frame.specs.FrameSpelling.{frames_spelling}
 use Rattle.qc_frame.specs.declared.frames.FrameOf.TheVariants as frames
 use Rattle.qc_state.specs.declared.waiting.TheConstants.{CRYPTO_HEAD}
 use Rattle.qc_state.specs.declared.waiting.SpaceWaiting.{SpaceWaiting}
+use Rattle.qc_datagrams.specs.Steps as datagrams
+use Rattle.qc_datagrams.specs.declared.datagrams.Datagrams.{Datagrams}
 use Rattle.qc_state.specs.Acks.{AckPart, is_ack_first, is_ack_last}
+use Rattle.qc_cids.specs.Steps as ids
+use Rattle.qc_cids.specs.declared.connection_ids.ConnectionIds.{ConnectionIds}
+use Rattle.qc_state.specs.declared.lower.Lower.{Lower}
+use Rattle.qc_state.specs.Datagrams.{AllOldest, sealed_datagrams}
+use Rattle.qc_state.specs.Ids.{AllNext, sealed_cids}
+use Rattle.qc_state.specs.Lower.{frames_sealed}
 use Rattle.qc_state.specs.StreamFrames.{control_of, sealed_steps}
 use Rattle.qc_state.specs.Waiting.{StartsWith, crypto_waits, without, without_all}
 use Rattle.qc_streams.specs.Steps.{AllMay}
@@ -50,15 +58,33 @@ abbrev pub AreOfStreams : (in_data : Bool) → List FrameValue → Type 0
 AreOfStreams in_data [] = Unit {0}
 AreOfStreams in_data (f ∷ fs) = (in_data ≡ true) × (is_streams_frame f ≡ true) × Fits f × AreOfStreams in_data fs
 
+-- whether a frame is one that a layer below offers: one of the streams, a DATAGRAM, or one about connection ids
+abbrev pub is_offered_frame : FrameValue → Bool
+is_offered_frame (frames.Datagram body) = true
+is_offered_frame (frames.NewConnectionId new) = true
+is_offered_frame (frames.RetireConnectionId sequence) = true
+is_offered_frame f = is_streams_frame f
+
+-- frames that the layers below offer, which go in 1-RTT packets alone, and whose numbers have room in their fields
+abbrev pub AreOffered : (in_data : Bool) → List FrameValue → Type 0
+AreOffered in_data [] = Unit {0}
+AreOffered in_data (f ∷ fs) = (in_data ≡ true) × (is_offered_frame f ≡ true) × Fits f × AreOffered in_data fs
+
+-- DATAGRAM frames alone, whose lengths have room in their fields
+abbrev pub AreDatagrams : List FrameValue → Type 0
+AreDatagrams [] = Unit {0}
+AreDatagrams (frames.Datagram body ∷ fs) = Fits (frames.Datagram body) × AreDatagrams fs
+AreDatagrams (_ ∷ fs) = ⊥
+
 -- The frames that this end takes at a time for a packet with so much room: the HANDSHAKE_DONE, the PING, the ACK that is owed or
--- joins, the CRYPTO bytes that fit behind them, frames of the streams, and an ACK that is only bundled.
+-- joins, the CRYPTO bytes that fit behind them, frames that the layers below offer, and an ACK that is only bundled.
 pub record TakenPart (time : ℕ) (bundled : Option ℕ) (in_data : Bool) (w : SpaceWaiting) (room : ℕ) (fs : List FrameValue) : Type 0 where
   pub acks : List FrameValue
   pub ack : AckPart time w (room - length (marks_part w)) acks (is_ack_first w.acks)
   pub crypto : List FrameValue
   pub part : CryptoPart (without_all w (marks_part w ++ acks)) (room - length (marks_part w) - length (frames_spelling acks)) crypto
   pub own : List FrameValue
-  pub streams : AreOfStreams in_data own
+  pub offered : AreOffered in_data own
   pub left : ℕ
   pub fits : length (frames_spelling own) + left ≤ room_behind (room - length (marks_part w) - length (frames_spelling acks)) crypto
   pub last : List FrameValue
@@ -72,6 +98,46 @@ pub record TakesStreams (in_data : Bool) (room : ℕ) (s s' : StreamsState) (fs 
   pub are : AreOfStreams in_data own
   pub may : AllMay (sealed_steps own) s
   pub leads : s' ≡ after (sealed_steps own) s
+  pub list : gs ≡ fs ++ own
+  pub fits : length (frames_spelling own) + left ≤ room
+
+-- DATAGRAM frames were taken, and put behind other frames, each with the oldest datagram that was to be sent then; of so much room they
+-- leave this much at least
+pub record TakesDatagrams (room : ℕ) (d d' : Datagrams) (fs gs : List FrameValue) (left : ℕ) : Type 0 where
+  pub own : List FrameValue
+  pub are : AreDatagrams own
+  pub oldest : AllOldest own d
+  pub given : d' ≡ datagrams.after (sealed_datagrams own) d
+  pub list : gs ≡ fs ++ own
+  pub fits : length (frames_spelling own) + left ≤ room
+
+-- frames about connection ids alone, whose numbers have room in their fields
+abbrev pub AreOfIds : List FrameValue → Type 0
+AreOfIds [] = Unit {0}
+AreOfIds (frames.NewConnectionId new ∷ fs) = Fits (frames.NewConnectionId new) × AreOfIds fs
+AreOfIds (frames.RetireConnectionId sequence ∷ fs) = Fits (frames.RetireConnectionId sequence) × AreOfIds fs
+AreOfIds (_ ∷ fs) = ⊥
+
+-- frames about connection ids were taken, and put behind other frames, each as the next one that waited then; of so much room they leave
+-- this much at least
+pub record TakesIds (room : ℕ) (d d' : ConnectionIds) (fs gs : List FrameValue) (left : ℕ) : Type 0 where
+  pub own : List FrameValue
+  pub are : AreOfIds own
+  pub next : AllNext own d
+  pub told : d' ≡ ids.after (sealed_cids own) d
+  pub list : gs ≡ fs ++ own
+  pub fits : length (frames_spelling own) + left ≤ room
+
+-- Frames that the layers below offer were taken, and put behind other frames: those of the streams each as one of their steps that may be,
+-- each DATAGRAM with the oldest datagram that was to be sent then, and each about connection ids as the next one that waited then; of so
+-- much room they leave this much at least
+pub record TakesOffered {S : Type 0} (in_data : Bool) (room : ℕ) (l l' : Lower S) (fs gs : List FrameValue) (left : ℕ) : Type 0 where
+  pub own : List FrameValue
+  pub are : AreOffered in_data own
+  pub may : AllMay (sealed_steps own) l.streams
+  pub oldest : AllOldest own l.datagrams
+  pub next : AllNext own l.ids
+  pub leads : l' ≡ frames_sealed own l
   pub list : gs ≡ fs ++ own
   pub fits : length (frames_spelling own) + left ≤ room
 

@@ -1,6 +1,6 @@
 -- The timers of a connection (RFC 9000, sections 5.1.1, 8.2.4, 10.1, 10.2 and 13.2.1; RFC 9001, section 6.5; RFC 9002, sections
 -- 6.2 and 7.7). Times are nanoseconds.
-use Rattle.std.specs.Prelude.{ℕ, Bool, max, true, false, nat_le, if◌then◌else◌, Option, Some, None}
+use Rattle.std.specs.Prelude.{ℕ, Bool, max, true, false, ◌||◌, nat_le, if◌then◌else◌, Option, Some, None, is_none}
 use Rattle.qc_base.specs.Time.{plus, times}
 use Rattle.qc_state.specs.declared.timers.Timers.{Timers}
 
@@ -73,6 +73,15 @@ timers_paced v = record v { pacing = None }
 -- the ACK that was held back is owed at last
 unfoldable pub timers_released : Timers → Timers
 timers_released v = record v { max_ack_delay = None }
+
+-- ids of this end were given at this time, the oldest of which grow old at `oldest`: the timer is set to that, unless it is set and hasn't
+-- come
+unfoldable pub timers_issued : Timers → (oldest : Option ℕ) → (time : ℕ) → Timers
+timers_issued v oldest time = record v { push_new_cid = if is_none v.push_new_cid || has_come v.push_new_cid time then oldest else v.push_new_cid }
+
+-- ids of this end have grown old
+unfoldable pub timers_outlived : Timers → Timers
+timers_outlived v = record v { push_new_cid = None }
 
 -- every timer is stopped
 unfoldable pub timers_stopped : Timers → Timers

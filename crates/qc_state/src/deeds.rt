@@ -53,6 +53,8 @@ pub enum Layer {
     Recovery,
     /// The session: bytes of the handshake.
     Session,
+    /// The connection ids of both ends.
+    Ids,
     /// The life of the connection: closes.
     Life,
 }

@@ -34,6 +34,8 @@ pub enum EndpointEvent {
     ResetToken(SocketAddr, ResetToken),
     /// At this time so many identifiers were wanted, for the peer to use (RFC 9000, 5.1.1).
     NeedIdentifiers(Instant, u64),
+    /// At this time the peer retired the id with this sequence number; whether one more is wanted in its place (RFC 9000, 19.16).
+    RetireConnectionId(Instant, u64, bool),
     /// The connection is drained: its state can be dropped. It is given once.
     Drained,
 }

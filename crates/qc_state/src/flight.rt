@@ -1,34 +1,22 @@
 //! Packets in flight: what is kept of a packet that was sealed (RFC 9002, 2).
 
-ghost use Rattle.std.specs.Prelude.{◌≡◌, ◌++◌, map, IfOk, OnOk};
+ghost use Rattle.std.specs.Prelude.{◌≡◌, ◌++◌, true, map, IfOk, OnOk};
 ghost use Rattle.std.specs.List.{list_any};
 ghost use Rattle.qc_frame.specs.Frame.{owned};
-ghost use Rattle.qc_state.specs.Flight.{counts_in_flight, flown_packet, is_padding, kept_frames, kept_of, meta_of, metas_of};
+ghost use Rattle.qc_state.specs.Flight.{counts_in_flight, flown_packet, has_numbers_alone, is_padding, kept_frames, kept_of, meta_of, metas_of};
 
 use qc_base::Instant;
 use qc_flight::{SentPacket, StreamMeta, StreamMetaVec};
 use qc_frame::{FrameList, FrameOf, OwnedAck, OwnedFrame};
 use std::alloc::{AllocError, Global};
 
-/// Keeps of a frame what its packet in flight needs. Want of memory is the only refusal.
-fn keep(kept: &mut FrameList, alloc: Global, frame: &OwnedFrame) -> Result<(), AllocError>
+/// Keeps a frame without bytes: the numbers that a frame of streams without bytes or one about connection ids holds; of any other kind
+/// nothing. Want of memory is the only refusal.
+fn keep_numbers(kept: &mut FrameList, frame: &OwnedFrame) -> Result<(), AllocError>
+    requires { has_numbers_alone (owned frame.now) ≡ true }
     ensures { OnOk result (kept.new ≡ kept.old ++ kept_of (owned frame.now)) }
 {
     match frame {
-        FrameOf::HandshakeDone => kept.push(FrameOf::HandshakeDone),
-        FrameOf::Crypto { offset, body } => {
-            let body = Vec::from_slice(alloc, body.as_slice())?;
-            kept.push(FrameOf::Crypto {
-                offset: *offset,
-                body,
-            })
-        }
-        FrameOf::Ack(ack) => kept.push(FrameOf::Ack(OwnedAck {
-            largest: ack.largest,
-            delay: 0,
-            additional: Vec::new(alloc),
-            ecn: None,
-        })),
         FrameOf::ResetStream {
             id,
             error_code,
@@ -51,6 +39,40 @@ fn keep(kept: &mut FrameList, alloc: Global, frame: &OwnedFrame) -> Result<(), A
             dir: *dir,
             count: *count,
         }),
+        FrameOf::NewConnectionId(new) => kept.push(FrameOf::NewConnectionId(*new)),
+        FrameOf::RetireConnectionId { sequence } => kept.push(FrameOf::RetireConnectionId {
+            sequence: *sequence,
+        }),
+        _ => unreachable!(),
+    }
+}
+
+/// Keeps of a frame what its packet in flight needs. Want of memory is the only refusal.
+fn keep(kept: &mut FrameList, alloc: Global, frame: &OwnedFrame) -> Result<(), AllocError>
+    ensures { OnOk result (kept.new ≡ kept.old ++ kept_of (owned frame.now)) }
+{
+    match frame {
+        FrameOf::HandshakeDone => kept.push(FrameOf::HandshakeDone),
+        FrameOf::Crypto { offset, body } => {
+            let body = Vec::from_slice(alloc, body.as_slice())?;
+            kept.push(FrameOf::Crypto {
+                offset: *offset,
+                body,
+            })
+        }
+        FrameOf::Ack(ack) => kept.push(FrameOf::Ack(OwnedAck {
+            largest: ack.largest,
+            delay: 0,
+            additional: Vec::new(alloc),
+            ecn: None,
+        })),
+        FrameOf::ResetStream { .. }
+        | FrameOf::StopSending { .. }
+        | FrameOf::MaxData(_)
+        | FrameOf::MaxStreamData { .. }
+        | FrameOf::MaxStreams { .. }
+        | FrameOf::NewConnectionId(_)
+        | FrameOf::RetireConnectionId { .. } => keep_numbers(kept, frame),
         FrameOf::Padding
         | FrameOf::Ping
         | FrameOf::NewToken { .. }
@@ -58,8 +80,6 @@ fn keep(kept: &mut FrameList, alloc: Global, frame: &OwnedFrame) -> Result<(), A
         | FrameOf::DataBlocked { .. }
         | FrameOf::StreamDataBlocked { .. }
         | FrameOf::StreamsBlocked { .. }
-        | FrameOf::NewConnectionId(_)
-        | FrameOf::RetireConnectionId { .. }
         | FrameOf::PathChallenge(_)
         | FrameOf::PathResponse(_)
         | FrameOf::ConnectionClose { .. }

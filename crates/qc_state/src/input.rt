@@ -1,6 +1,7 @@
 //! The inputs of a connection that is driven.
 
 use crate::body::Body;
+use crate::id_list::IdList;
 use qc_base::{Dir, EcnCodepoint, Instant, StreamId, VarInt};
 use std::net::SocketAddr;
 
@@ -136,6 +137,13 @@ pub enum Input {
         /// How many.
         size: VarInt,
     },
+    /// The endpoint gives ids for the peer to use, as many as it was asked for at most (RFC 9000, 5.1.1).
+    Identifiers {
+        /// The time.
+        now: Instant,
+        /// The ids, with the next sequence numbers.
+        ids: IdList,
+    },
 }
 
 /// The kind of an input.
@@ -175,4 +183,6 @@ pub enum Word {
     SendWindow,
     /// An `Input::ReceiveWindow`.
     ReceiveWindow,
+    /// An `Input::Identifiers`.
+    Identifiers,
 }

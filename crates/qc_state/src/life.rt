@@ -1,7 +1,7 @@
 //! The life of a connection, the reason of its end, and what of both waits to be reported.
 
 ghost use Rattle.std.specs.Prelude.{◌≡◌, ◌++◌, true, slice_get, IfOk, OnOk};
-ghost use Rattle.qc_state.specs.Life.{rank_of, is_open, is_closed, is_handshake, is_established, is_over, is_drained, life_closed, life_drained, life_established, data_ready, reason_given, life_raised, ready_event, ready_reported, connected_event, connected_reported, datagram_heard, heard_reported, all_heard_reported, lost_event, lost_reported, token_learned, identifiers_wanted, first_notice, notice_reported, notices_reported, drained_event, drained_reported};
+ghost use Rattle.qc_state.specs.Life.{rank_of, is_open, is_closed, is_handshake, is_established, is_over, is_drained, life_closed, life_drained, life_established, data_ready, reason_given, life_raised, ready_event, ready_reported, connected_event, connected_reported, datagram_heard, heard_reported, all_heard_reported, lost_event, lost_reported, token_learned, token_told, identifiers_wanted, retirement_told, first_notice, notice_reported, notices_reported, drained_event, drained_reported};
 
 use crate::events::{EndpointEvent, EndpointEvents, Event, Events};
 use bytes::Bytes;
@@ -150,7 +150,7 @@ pub fn rank(state: State) -> u8
     }
 }
 
-#[tactic(auto, unfolding(crate::specs::Life::life_raised, crate::specs::Life::life_closed, crate::specs::Life::life_drained, crate::specs::Life::life_established, crate::specs::Life::data_ready, crate::specs::Life::ready_event, crate::specs::Life::ready_reported, crate::specs::Life::connected_event, crate::specs::Life::connected_reported, crate::specs::Life::datagram_heard, crate::specs::Life::heard_reported, crate::specs::Life::all_heard_reported, crate::specs::Life::reason_given, crate::specs::Life::lost_event, crate::specs::Life::lost_reported, crate::specs::Life::token_learned, crate::specs::Life::identifiers_wanted, crate::specs::Life::notice_reported, crate::specs::Life::notices_reported, crate::specs::Life::drained_event, crate::specs::Life::drained_reported))]
+#[tactic(auto, unfolding(crate::specs::Life::life_raised, crate::specs::Life::life_closed, crate::specs::Life::life_drained, crate::specs::Life::life_established, crate::specs::Life::data_ready, crate::specs::Life::ready_event, crate::specs::Life::ready_reported, crate::specs::Life::connected_event, crate::specs::Life::connected_reported, crate::specs::Life::datagram_heard, crate::specs::Life::heard_reported, crate::specs::Life::all_heard_reported, crate::specs::Life::reason_given, crate::specs::Life::lost_event, crate::specs::Life::lost_reported, crate::specs::Life::token_learned, crate::specs::Life::identifiers_wanted, crate::specs::Life::retirement_told, crate::specs::Life::notice_reported, crate::specs::Life::notices_reported, crate::specs::Life::drained_event, crate::specs::Life::drained_reported))]
 impl Life {
     /// Whether this end hasn't closed, and nothing has ended the connection.
     pub fn is_open(&self) -> bool
@@ -326,6 +326,34 @@ impl Life {
     {
         self.notices
             .push(Some(EndpointEvent::ResetToken(remote, token)))
+    }
+
+    /// A token for a stateless reset came with another id of the peer, where one did: it waits to be reported. Want of memory is the only
+    /// refusal.
+    pub fn tell_token(
+        &mut self,
+        remote: SocketAddr,
+        token: Option<ResetToken>,
+    ) -> Result<(), AllocError>
+        ensures { OnOk result (self.new ≡ token_told self.old remote token) }
+    {
+        match token {
+            None => Ok(()),
+            Some(token) => self.learn_token(remote, token),
+        }
+    }
+
+    /// The peer retired the id with a number at `now`, which waits to be reported; `more` says that one more is wanted. Want of memory is
+    /// the only refusal.
+    pub fn tell_retirement(
+        &mut self,
+        now: Instant,
+        sequence: u64,
+        more: bool,
+    ) -> Result<(), AllocError>
+        ensures { OnOk result (self.new ≡ retirement_told self.old now sequence more) }
+    {
+        self.notices.push(Some(EndpointEvent::RetireConnectionId(now, sequence, more)))
     }
 
     /// So many identifiers are wanted at `now`, which waits to be reported. Want of memory is the only refusal.

@@ -20,6 +20,7 @@ use crate::streams::hand;
 use bytes::Bytes;
 use qc_assembler::{Assembler, InsertError};
 use qc_base::{Instant, SpaceId, TransportError};
+use qc_cids::ConnectionIds;
 use qc_datagrams::Datagrams;
 use qc_flight::SentPacket;
 use qc_frame::{Ack, Frame, FrameOf};
@@ -42,6 +43,8 @@ pub struct Lower<S> {
     pub streams: StreamsState,
     /// The datagrams of the application (RFC 9221).
     pub datagrams: Datagrams,
+    /// The connection ids of both ends (RFC 9000, 5.1).
+    pub ids: ConnectionIds,
 }
 
 #[tactic(auto, unfolding(crate::specs::Lower::stream_of, crate::specs::Lower::bytes_came, crate::specs::Lower::session_read, crate::specs::Lower::packet_flown, crate::specs::Lower::packets_settled, crate::specs::Lower::timer_fired, crate::specs::Lower::flight_dropped, crate::specs::Lower::streams_stepped, crate::specs::Lower::frame_handed, crate::specs::Lower::handed_stop, crate::specs::Lower::datagrams_stepped, crate::specs::Streams::streams_stop, crate::specs::Streams::steps_of_frame, qc_datagrams::specs::Steps::after, crate::specs::Lower::limits_learned, crate::specs::Lower::streams_closed, crate::specs::Lower::event_told, crate::specs::Lower::events_told, qc_streams::specs::Waits::after, qc_streams::specs::Waits::after_step))]
@@ -162,7 +165,8 @@ impl<S> Lower<S> {
         }
     }
 
-    /// The peer's limits on streams are known, from its parameters (RFC 9000, 18.2).
+    /// The peer's limits on streams are known, from its parameters, and the id that it named with an address, if it did (RFC 9000, 18.2).
+    #[tactic(auto, unfolding(crate::specs::Lower::limits_learned, crate::specs::Lower::streams_stepped, crate::specs::Lower::ids_stepped, qc_streams::specs::Waits::after, qc_streams::specs::Waits::after_step, qc_cids::specs::Steps::after))]
     pub fn learn_limits(&mut self, parameters: &TransportParameters)
         ensures { self.new ≡ limits_learned parameters.now self.old }
     {
@@ -174,6 +178,9 @@ impl<S> Lower<S> {
             own_bidi_data: parameters.initial_max_stream_data_bidi_remote,
             own_uni_data: parameters.initial_max_stream_data_uni,
         });
+        if let Some(address) = &parameters.preferred_address {
+            self.ids.prefer(address.id, address.reset_token);
+        }
     }
 
     /// The connection isn't open any more, which the streams are told.

@@ -1,7 +1,7 @@
 //! The path to the peer.
 
 ghost use Rattle.std.specs.Prelude.{◌≡◌, ◌≢◌, true, false};
-ghost use Rattle.qc_state.specs.Paths.{new_path, only_path, path_idle, path_sent, path_received, path_accepted, path_spun, spun_by, peer_fixed, peer_id, is_blocked, is_other_source, same_address};
+ghost use Rattle.qc_state.specs.Paths.{new_path, only_path, path_idle, path_sent, path_received, path_accepted, path_spun, spun_by, path_named, peer_fixed, peer_id, is_blocked, is_other_source, same_address};
 ghost use Rattle.std.specs.Net.Addr.{ipv4_octets, ipv6_segments};
 
 use crate::deeds::Verdict;
@@ -75,7 +75,7 @@ impl<C: Controller> Path<C> {
     }
 }
 
-#[tactic(auto, unfolding(crate::specs::Paths::only_path, crate::specs::Paths::path_sent, crate::specs::Paths::path_idle, crate::specs::Paths::path_received, crate::specs::Paths::peer_fixed, crate::specs::Paths::path_accepted, crate::specs::Paths::path_spun, crate::specs::Paths::is_blocked))]
+#[tactic(auto, unfolding(crate::specs::Paths::only_path, crate::specs::Paths::path_sent, crate::specs::Paths::path_idle, crate::specs::Paths::path_received, crate::specs::Paths::peer_fixed, crate::specs::Paths::path_named, crate::specs::Paths::path_accepted, crate::specs::Paths::path_spun, crate::specs::Paths::is_blocked))]
 impl<C: Controller> Paths<C> {
     /// A connection's first path, with the id that the peer chose, where it did.
     pub fn new(path: Path<C>, peer_cid: Option<ConnectionId>) -> Paths<C>
@@ -133,6 +133,13 @@ impl<C: Controller> Paths<C> {
     {
         self.current.remote_cid = cid;
         self.peer_cid = Some(cid);
+    }
+
+    /// Packets to the peer carry another one of its ids from then on.
+    pub fn name(&mut self, cid: ConnectionId)
+        ensures { self.new ≡ path_named self.old cid }
+    {
+        self.current.remote_cid = cid;
     }
 
     /// So many bytes were sent to the path's address.

@@ -24,6 +24,10 @@ pub struct Fixed {
     pub local_cid: ConnectionId,
     /// The destination id of a client's first packets (RFC 9000, 7.2).
     pub first_cid: ConnectionId,
+    /// How long an id of this end is used; without a limit where there is none (RFC 9000, 5.1.2).
+    pub cid_lifetime: Option<Duration>,
+    /// How many ids of this end stand with the handshake: 1, or 2 where a preferred address carries the second (RFC 9000, 18.2).
+    pub issued: u64,
     /// The address to send from, where one was given.
     pub local_ip: Option<IpAddr>,
     /// This end's limit on idle time; none where it has none (RFC 9000, 10.1).

@@ -188,6 +188,9 @@ impl fmt::Display for EndpointEvent {
                 "stateless reset token {token} of {remote}"
             ),
             EndpointEvent::NeedIdentifiers(_, count) => write!(f, "{count} identifiers needed"),
+            EndpointEvent::RetireConnectionId(_, sequence, _) => {
+                write!(f, "identifier {sequence} retired")
+            }
             EndpointEvent::Drained => write!(f, "drained"),
         }
     }

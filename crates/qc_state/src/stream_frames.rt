@@ -101,7 +101,7 @@ fn part_frame(alloc: Global, drawn: StreamPart) -> Result<OwnedFrame, AllocError
 
 /// Takes the frames without bytes that wait, as many as fit, and answers how much of the room they leave. Want of memory is the only
 /// refusal.
-fn take_controls(
+pub(crate) fn take_controls(
     streams: &mut StreamsState,
     room: usize,
     frames: &mut FrameList,
@@ -121,7 +121,7 @@ fn take_controls(
 
 /// Takes the bytes of streams that wait first, as many as fit, and answers how much of the room they leave. Want of memory is the only
 /// refusal.
-fn take_parts(
+pub(crate) fn take_parts(
     streams: &mut StreamsState,
     alloc: Global,
     room: usize,
@@ -138,22 +138,4 @@ fn take_parts(
         let frame = part_frame(alloc, drawn)?;
         frames.push(frame)?;
     }
-}
-
-/// Takes the frames of streams that wait, in a 1-RTT packet, as many as fit: first those without bytes. Answers how much of the room
-/// they leave. Want of memory is the only refusal.
-pub(crate) fn take_streams(
-    streams: &mut StreamsState,
-    alloc: Global,
-    in_data: bool,
-    room: usize,
-    frames: &mut FrameList,
-) -> Result<usize, AllocError>
-    ensures { IfOk result (λ left. TakesStreams in_data room streams.old streams.new frames.old frames.new left) }
-{
-    if !in_data {
-        return Ok(room);
-    }
-    let left = take_controls(streams, room, frames)?;
-    take_parts(streams, alloc, left, frames)
 }

@@ -6,18 +6,22 @@ ghost use Rattle.qc_frame.specs.Frame.{ack_map};
 ghost use Rattle.qc_frame.specs.FrameSpelling.{frames_spelling};
 ghost use Rattle.qc_state.specs.Acks.{AckPart, SaysAck, is_ack_first, is_ack_last, is_ack_owed, may_acknowledge, told_count, told_counts};
 ghost use Rattle.qc_frame.specs.declared.frames.FrameOf.TheVariants as frames;
-ghost use Rattle.qc_state.specs.Taking.{TakenPart, TakesAck, TakesCrypto, marks_part};
+ghost use Rattle.qc_state.specs.Taking.{TakenPart, TakesAck, TakesCrypto, TakesOffered, marks_part};
+ghost use Rattle.qc_state.specs.Datagrams.{AllOldest};
+ghost use Rattle.qc_state.specs.Ids.{AllNext};
+ghost use Rattle.qc_state.specs.Lower.{frames_sealed};
 ghost use Rattle.qc_state.specs.StreamFrames.{sealed_steps};
 ghost use Rattle.qc_state.specs.Waiting.{without_all};
 ghost use Rattle.qc_streams.specs.Steps.{AllMay};
-ghost use Rattle.qc_streams.specs.Waits.{after};
 
-use crate::stream_frames::take_streams;
+use crate::datagrams::take_datagrams;
+use crate::id_frames::take_ids;
+use crate::lower::Lower;
+use crate::stream_frames::{take_controls, take_parts};
 use crate::waiting::{CRYPTO_HEAD, SpaceWaiting};
 use qc_base::Instant;
 use qc_frame::{Ack, EcnCounts, FrameList, FrameOf, OwnedAck, put_frame};
 use qc_path::PendingAcks;
-use qc_streams::StreamsState;
 use std::alloc::{AllocError, Global};
 
 /// Whether there is something to acknowledge, and each number is one of a packet.
@@ -186,11 +190,31 @@ fn take_crypto(
     Ok(left)
 }
 
-/// Takes frames that wait at a time for a packet with so much room, in a packet of 1-RTT also those of the streams; an ACK may be
-/// bundled with them from `bundled` on. Want of memory is the only refusal.
-pub(crate) fn take(
+/// Takes the frames that the layers below offer, in a 1-RTT packet, as many as fit: first those of streams without bytes, then those about
+/// connection ids, then datagrams, then the bytes of streams. Answers how much of the room they leave. Want of memory is the only refusal.
+pub(crate) fn take_offered<S>(
+    lower: &mut Lower<S>,
+    alloc: Global,
+    in_data: bool,
+    room: usize,
+    frames: &mut FrameList,
+) -> Result<usize, AllocError>
+    ensures { IfOk result (λ left. TakesOffered in_data room lower.old lower.new frames.old frames.new left) }
+{
+    if !in_data {
+        return Ok(room);
+    }
+    let more = take_controls(&mut lower.streams, room, frames)?;
+    let rest = take_ids(&mut lower.ids, more, frames)?;
+    let left = take_datagrams(&mut lower.datagrams, alloc, rest, frames)?;
+    take_parts(&mut lower.streams, alloc, left, frames)
+}
+
+/// Takes frames that wait at a time for a packet with so much room, in a packet of 1-RTT also those that the layers below offer; an ACK may
+/// be bundled with them from `bundled` on. Want of memory is the only refusal.
+pub(crate) fn take<S>(
     space: &mut SpaceWaiting,
-    streams: &mut StreamsState,
+    lower: &mut Lower<S>,
     alloc: Global,
     now: Instant,
     bundled: Option<Instant>,
@@ -199,8 +223,10 @@ pub(crate) fn take(
 ) -> Result<FrameList, AllocError>
     ensures frames { IfOk result (λ frames. TakenPart now bundled in_data space.old room frames) }
     ensures rest { IfOk result (λ frames. space.new ≡ without_all space.old frames) }
-    ensures may { IfOk result (λ frames. AllMay (sealed_steps frames) streams.old) }
-    ensures leads { IfOk result (λ frames. streams.new ≡ after (sealed_steps frames) streams.old) }
+    ensures may { IfOk result (λ frames. AllMay (sealed_steps frames) lower.old.streams) }
+    ensures oldest { IfOk result (λ frames. AllOldest frames lower.old.datagrams) }
+    ensures next { IfOk result (λ frames. AllNext frames lower.old.ids) }
+    ensures leads { IfOk result (λ frames. lower.new ≡ frames_sealed frames lower.old) }
 {
     let mut frames = FrameList::new(alloc);
     let first = is_ack_first(&space.acks);
@@ -209,7 +235,7 @@ pub(crate) fn take(
     let room = room.saturating_sub(count);
     let len = take_ack(space, alloc, now, first, room, &mut frames)?;
     let rest = take_crypto(space, alloc, room.saturating_sub(len), &mut frames)?;
-    let left = take_streams(streams, alloc, in_data, rest, &mut frames)?;
+    let left = take_offered(lower, alloc, in_data, rest, &mut frames)?;
     take_ack(space, alloc, now, last, left, &mut frames)?;
     Ok(frames)
 }

@@ -1,7 +1,7 @@
 //! The timers, and the greatest time so far.
 
 ghost use Rattle.std.specs.Prelude.{◌≡◌};
-ghost use Rattle.qc_state.specs.Timers.{no_timers, timers_sealed, timers_acking, timers_stopped, timers_closing, timers_accepted, timers_holding, timers_paced, timers_released, timers_armed, clock_set, next_timeout, least, idle_from, has_come};
+ghost use Rattle.qc_state.specs.Timers.{no_timers, timers_sealed, timers_acking, timers_stopped, timers_closing, timers_accepted, timers_holding, timers_paced, timers_released, timers_issued, timers_outlived, timers_armed, clock_set, next_timeout, least, idle_from, has_come};
 
 use qc_base::{Duration, Instant};
 
@@ -26,7 +26,7 @@ pub struct Timers {
     pub keep_alive: Option<Instant>,
     /// When a datagram that the pacer holds back may go (RFC 9002, 7.7). No call sets it so far, since sending isn't paced yet.
     pub pacing: Option<Instant>,
-    /// When new connection ids are asked for (RFC 9000, 5.1.1). No call sets it so far, since ids that are given aren't kept yet.
+    /// When new connection ids are asked for (RFC 9000, 5.1.2).
     pub push_new_cid: Option<Instant>,
     /// When an ACK that is held back is owed (RFC 9000, 13.2.1).
     pub max_ack_delay: Option<Instant>,
@@ -81,7 +81,7 @@ fn idle_at(
     }
 }
 
-#[tactic(auto, unfolding(crate::specs::Timers::timers_sealed, crate::specs::Timers::timers_stopped, crate::specs::Timers::timers_closing, crate::specs::Timers::timers_accepted, crate::specs::Timers::timers_armed, crate::specs::Timers::timers_holding, crate::specs::Timers::timers_acking, crate::specs::Timers::timers_paced, crate::specs::Timers::timers_released, crate::specs::Timers::clock_set, crate::specs::Timers::next_timeout))]
+#[tactic(auto, unfolding(crate::specs::Timers::timers_sealed, crate::specs::Timers::timers_stopped, crate::specs::Timers::timers_closing, crate::specs::Timers::timers_accepted, crate::specs::Timers::timers_armed, crate::specs::Timers::timers_holding, crate::specs::Timers::timers_acking, crate::specs::Timers::timers_paced, crate::specs::Timers::timers_released, crate::specs::Timers::timers_issued, crate::specs::Timers::timers_outlived, crate::specs::Timers::clock_set, crate::specs::Timers::next_timeout))]
 impl Timers {
     /// The timers of a connection that begins at `now`: none is set.
     pub fn new(now: Instant) -> Timers
@@ -150,6 +150,23 @@ impl Timers {
         ensures { self.new ≡ timers_released self.old }
     {
         self.max_ack_delay = None;
+    }
+
+    /// Ids of this end were given at `now`, the oldest of which grow old at `oldest`: the timer is set to that, unless it is set and hasn't
+    /// come.
+    pub fn issued(&mut self, oldest: Option<Instant>, now: Instant)
+        ensures { self.new ≡ timers_issued self.old oldest now }
+    {
+        if self.push_new_cid.is_none() || has_come(self.push_new_cid, now) {
+            self.push_new_cid = oldest;
+        }
+    }
+
+    /// Ids of this end have grown old.
+    pub fn outlive(&mut self)
+        ensures { self.new ≡ timers_outlived self.old }
+    {
+        self.push_new_cid = None;
     }
 
     /// The loss timer is set to a time, or stopped.

@@ -8,13 +8,16 @@ ghost use Rattle.qc_state.specs.Acks.{AckPart, is_ack, is_ack_owed, may_acknowle
 ghost use Rattle.qc_base.specs.declared.side.SpaceId.TheVariants.{«Data»};
 ghost use Rattle.qc_path.specs.Acks.{sets_delay};
 ghost use Rattle.qc_state.specs.Spaces.{is_space, space_of, with_space};
+ghost use Rattle.qc_state.specs.Datagrams.{AllOldest};
+ghost use Rattle.qc_state.specs.Ids.{AllNext};
+ghost use Rattle.qc_state.specs.Lower.{frames_sealed};
 ghost use Rattle.qc_state.specs.StreamFrames.{sealed_steps};
 ghost use Rattle.qc_state.specs.Taking.{TakenPart};
 ghost use Rattle.qc_state.specs.Waiting.{ack_released, bundle_next, came_in, close_begun, counts_begun, crypto_written, done_asked, fired_in, frames_again, holds_back, mark_counted, marks_begun, nothing_left, packet_came, packet_told, packets_acked, packets_lost, ping_asked, probe_spent, probes_added, space_left, waiting_without, wants_here};
 ghost use Rattle.qc_streams.specs.Steps.{AllMay};
-ghost use Rattle.qc_streams.specs.Waits.{after};
 
 use crate::crypto_queue::CryptoQueue;
+use crate::lower::Lower;
 use crate::settling::{acknowledge, all_again, lose};
 use crate::spaces::Spaces;
 use crate::taking::{ack_alone, is_ack_owed, take};
@@ -25,7 +28,6 @@ use qc_frame::{EcnCounts, FrameList, FrameOf, OwnedFrame};
 use qc_path::{Arrival, Dedup, PendingAcks};
 use qc_recovery::{Fired, Settled};
 use qc_space::with_mark;
-use qc_streams::StreamsState;
 use std::alloc::{AllocError, Global};
 
 /// The greatest size of a CRYPTO frame's type, offset and length together, in bytes.
@@ -396,11 +398,11 @@ impl Waiting {
         self.spaces.application.done = true;
     }
 
-    /// Takes frames that wait in the space at a time, for a packet with so much room for them; those of the streams go in the space of
-    /// 1-RTT packets. Want of memory is the only refusal.
-    pub fn take(
+    /// Takes frames that wait in the space at a time, for a packet with so much room for them; those that the layers below offer go in
+    /// the space of 1-RTT packets. Want of memory is the only refusal.
+    pub fn take<S>(
         &mut self,
-        streams: &mut StreamsState,
+        lower: &mut Lower<S>,
         alloc: Global,
         now: Instant,
         space: SpaceId,
@@ -408,24 +410,18 @@ impl Waiting {
     ) -> Result<FrameList, AllocError>
         ensures frames { IfOk result (λ frames. TakenPart now self.old.bundled (is_space space «Data») (space_of self.old.spaces space) room frames) }
         ensures rest { IfOk result (λ frames. self.new ≡ waiting_without self.old space frames) }
-        ensures may { IfOk result (λ frames. AllMay (sealed_steps frames) streams.old) }
-        ensures leads { IfOk result (λ frames. streams.new ≡ after (sealed_steps frames) streams.old) }
+        ensures may { IfOk result (λ frames. AllMay (sealed_steps frames) lower.old.streams) }
+        ensures oldest { IfOk result (λ frames. AllOldest frames lower.old.datagrams) }
+        ensures next { IfOk result (λ frames. AllNext frames lower.old.ids) }
+        ensures leads { IfOk result (λ frames. lower.new ≡ frames_sealed frames lower.old) }
     {
         let bundled = self.bundled;
         let spaces = &mut self.spaces;
         match space {
-            SpaceId::Initial => take(
-                &mut spaces.initial,
-                streams,
-                alloc,
-                now,
-                bundled,
-                false,
-                room,
-            ),
+            SpaceId::Initial => take(&mut spaces.initial, lower, alloc, now, bundled, false, room),
             SpaceId::Handshake => take(
                 &mut spaces.handshake,
-                streams,
+                lower,
                 alloc,
                 now,
                 bundled,
@@ -434,7 +430,7 @@ impl Waiting {
             ),
             SpaceId::Data => take(
                 &mut spaces.application,
-                streams,
+                lower,
                 alloc,
                 now,
                 bundled,

@@ -1,5 +1,6 @@
 //! One end: a connection that is driven input by input, and the text of all its steps.
 
+use crate::posts::Posts;
 use crate::setups::{Toy, client_address, client_to, server, server_address};
 use crate::tally::Tally;
 use qc_base::{ConnectionId, EcnCodepoint, Instant, VarInt};
@@ -25,6 +26,8 @@ pub(crate) struct End {
     quiet: bool,
     /// What its steps told of streams.
     pub(crate) tally: Tally,
+    /// What they told of datagrams.
+    pub(crate) posts: Posts,
 }
 
 /// The lines of a text that begin with these words, each with its end.
@@ -75,6 +78,7 @@ impl End {
             text: String::new(alloc),
             quiet: false,
             tally: Tally::none(),
+            posts: Posts::none(),
         })
     }
 
@@ -87,13 +91,15 @@ impl End {
             text: String::new(alloc),
             quiet: false,
             tally: Tally::none(),
+            posts: Posts::none(),
         })
     }
 
-    /// Puts the text of a step behind that of the others, unless this end is quiet, and counts what it told of streams.
+    /// Puts the text of a step behind that of the others, unless this end is quiet, and counts what it told of streams and datagrams.
     fn note(&mut self, alloc: Global, input: &Input, trace: &Trace) -> Result<(), Fail> {
         if let Some(step) = trace.as_slice().last() {
             self.tally.count(input, step);
+            self.posts.count(input, step);
         }
         if !self.quiet {
             let text = String::from_utf8(trace_text(alloc, trace)?)?;

@@ -21,6 +21,10 @@ mod order_tests;
 #[cfg(test)]
 mod pair;
 #[cfg(test)]
+mod post_tests;
+#[cfg(test)]
+mod posts;
+#[cfg(test)]
 mod setups;
 #[cfg(test)]
 mod sign_tests;

@@ -1,5 +1,5 @@
 -- The text of a deed tells the deed.
-use Rattle.std.proofs.Common.{◌≡◌, ℕ, ◌<◌, ◌^◌, Bool, true, false, List, [], ◌∷◌, ◌++◌, if◌then◌else◌, drop, get_or, Option, Some, None, refl, sym, ap, ◌∙◌, append_assoc, arith}
+use Rattle.std.proofs.Common.{◌≡◌, ℕ, ◌+◌, ◌<◌, ◌^◌, Bool, true, false, List, [], ◌∷◌, ◌++◌, if◌then◌else◌, drop, get_or, Option, Some, None, refl, sym, ap, ◌∙◌, append_assoc, arith}
 use Rattle.std.specs.Prelude.{decimal, codes}
 use Rattle.std.specs.List.{All}
 use Rattle.hex.specs.Hex.{encode_lower}
@@ -10,7 +10,7 @@ use Rattle.qc_frame.specs.Frame.{FrameValue}
 use Rattle.qc_state.specs.declared.deeds.Did.{Did}
 use Rattle.qc_state.specs.declared.deeds.Did.TheVariants as deed
 use Rattle.qc_state.specs.declared.deeds.Layer.{Layer}
-use Rattle.qc_state.specs.declared.deeds.Layer.TheVariants.{Streams, Recovery, Session, Life}
+use Rattle.qc_state.specs.declared.deeds.Layer.TheVariants.{Streams, Recovery, Session, Ids, Life}
 use Rattle.qc_state.specs.declared.deeds.Quiet.{Quiet}
 use Rattle.qc_state.specs.declared.deeds.Quiet.TheVariants.{NothingOwed, Silent, Amplification, Killed}
 use Rattle.qc_state.specs.declared.deeds.Verdict.{Verdict}
@@ -99,18 +99,20 @@ unfolding layer_name
 layer_is_token Streams = refl
 layer_is_token Recovery = refl
 layer_is_token Session = refl
+layer_is_token Ids = refl
 layer_is_token Life = refl
 
--- the third letters differ
+-- the sums of the second and the third letter differ
 layer_injective : (a b : Layer) → layer_name a ≡ layer_name b → a ≡ b
 unfolding layer_name
 layer_injective Streams Streams e = refl
 layer_injective Recovery Recovery e = refl
 layer_injective Session Session e = refl
+layer_injective Ids Ids e = refl
 layer_injective Life Life e = refl
-layer_injective _ _ e = absurd (omega (arith, ap (λ (a : List ℕ). get_or a 2 0) e))
+layer_injective _ _ e = absurd (omega (arith, ap (λ (a : List ℕ). get_or a 1 0 + get_or a 2 0) e))
 
-type_by : (a b c d e f g h i j k : Bool) → is_token
+type_by : (a b c d e f g h i j k l m : Bool) → is_token
     (if a then codes "ACK"
     else if b then codes "RESET_STREAM"
     else if c then codes "STOP_SENDING"
@@ -118,28 +120,32 @@ type_by : (a b c d e f g h i j k : Bool) → is_token
     else if e then codes "MAX_DATA"
     else if f then codes "MAX_STREAM_DATA"
     else if g then codes "MAX_STREAMS"
-    else if h then codes "CONNECTION_CLOSE"
-    else if i then codes "APPLICATION_CLOSE"
-    else if j then codes "HANDSHAKE_DONE"
-    else if k then codes "DATAGRAM"
+    else if h then codes "NEW_CONNECTION_ID"
+    else if i then codes "RETIRE_CONNECTION_ID"
+    else if j then codes "CONNECTION_CLOSE"
+    else if k then codes "APPLICATION_CLOSE"
+    else if l then codes "HANDSHAKE_DONE"
+    else if m then codes "DATAGRAM"
     else codes "-") ≡ true
-type_by true b c d e f g h i j k = refl
-type_by false true c d e f g h i j k = refl
-type_by false false true d e f g h i j k = refl
-type_by false false false true e f g h i j k = refl
-type_by false false false false true f g h i j k = refl
-type_by false false false false false true g h i j k = refl
-type_by false false false false false false true h i j k = refl
-type_by false false false false false false false true i j k = refl
-type_by false false false false false false false false true j k = refl
-type_by false false false false false false false false false true k = refl
-type_by false false false false false false false false false false true = refl
-type_by false false false false false false false false false false false = refl
+type_by true b c d e f g h i j k l m = refl
+type_by false true c d e f g h i j k l m = refl
+type_by false false true d e f g h i j k l m = refl
+type_by false false false true e f g h i j k l m = refl
+type_by false false false false true f g h i j k l m = refl
+type_by false false false false false true g h i j k l m = refl
+type_by false false false false false false true h i j k l m = refl
+type_by false false false false false false false true i j k l m = refl
+type_by false false false false false false false false true j k l m = refl
+type_by false false false false false false false false false true k l m = refl
+type_by false false false false false false false false false false true l m = refl
+type_by false false false false false false false false false false false true m = refl
+type_by false false false false false false false false false false false false true = refl
+type_by false false false false false false false false false false false false false = refl
 
 given_is_token : (body : List ℕ) → is_token (given_name body) ≡ true
 unfolding given_name type_name
 given_is_token [] = refl
-given_is_token (type ∷ _) = type_by _ _ _ _ _ _ _ _ _ _ _
+given_is_token (type ∷ _) = type_by _ _ _ _ _ _ _ _ _ _ _ _ _
 
 -- ---- sealed packets
 
@@ -229,6 +235,7 @@ given_back Recovery a b r s p q e = named_back a b r s p q e
 given_back Session a b r s p q e =
     let body = bytes_back a b 10 10 r s p q refl refl e in
     (body.0, ap (drop 1) body.1)
+given_back Ids a b r s p q e = named_back a b r s p q e
 given_back Life a b r s p q e = named_back a b r s p q e
 
 gave_parts : (layer : Layer) (body r : List ℕ) → gave_text layer body ++ r ≡ codes "gave " ++ (layer_name layer ++ 32 ∷ (given_text layer body ++ 10 ∷ r))

@@ -9,7 +9,7 @@ use Rattle.qc_base.specs.declared.side.Dir.TheVariants.{Bi, Uni}
 use Rattle.qc_state.specs.declared.deeds.Did.{Did}
 use Rattle.qc_state.specs.declared.deeds.Did.TheVariants as deed
 use Rattle.qc_state.specs.declared.events.EndpointEvent.{EndpointEvent}
-use Rattle.qc_state.specs.declared.events.EndpointEvent.TheVariants.{ResetToken, NeedIdentifiers, Drained}
+use Rattle.qc_state.specs.declared.events.EndpointEvent.TheVariants.{ResetToken, NeedIdentifiers, RetireConnectionId, Drained}
 use Rattle.qc_state.specs.declared.events.Event.{Event}
 use Rattle.qc_state.specs.declared.events.Event.TheVariants.{HandshakeDataReady, Connected, ConnectionLost, DatagramReceived, Stream}
 use Rattle.qc_state.specs.declared.input.Word.{Word}
@@ -19,7 +19,7 @@ use Rattle.qc_state.specs.declared.trace.Answer.TheVariants as answer
 use Rattle.qc_state.specs.declared.trace.Step.{Step}
 use Rattle.qc_streams.specs.declared.events.StreamEvent.{StreamEvent}
 use Rattle.qc_streams.specs.declared.events.StreamEvent.TheVariants as streamed
-use Rattle.qc_text.specs.TraceText.{sealed_text, piece_text, gave_text, did_text, bytes_or_dash, address_text, target_text, out_text, read_text, answer_text, dir_name, stream_event_text, event_text, reset_token_text, need_text, endpoint_text, timer_text, word_name, step_head, step_text, trace_text}
+use Rattle.qc_text.specs.TraceText.{sealed_text, piece_text, gave_text, did_text, bytes_or_dash, address_text, target_text, out_text, read_text, answer_text, dir_name, stream_event_text, event_text, reset_token_text, need_text, flag_text, retired_text, retire_text, endpoint_text, timer_text, word_name, step_head, step_text, trace_text}
 use Rattle.qc_text.specs.OneText.{IsOptionInRange, IsDeedInRange, IsDeedPlain, IsStreamEventInRange, IsEventInRange, IsEndpointInRange, IsEndpointPlain, IsInRange, IsPlain}
 use Rattle.qc_text.proofs.Tokens.{is_token, token_back, number_back, lines_back, lines_begin}
 use Rattle.qc_text.proofs.DeedsBack.{did_back}
@@ -48,6 +48,7 @@ word_is_token word.Ping = refl
 word_is_token word.MaxStreams = refl
 word_is_token word.SendWindow = refl
 word_is_token word.ReceiveWindow = refl
+word_is_token word.Identifiers = refl
 
 -- the sums of the first, the third and the fifth letter differ
 word_injective : (v w : Word) → word_name v ≡ word_name w → v ≡ w
@@ -69,6 +70,7 @@ word_injective word.Ping word.Ping e = refl
 word_injective word.MaxStreams word.MaxStreams e = refl
 word_injective word.SendWindow word.SendWindow e = refl
 word_injective word.ReceiveWindow word.ReceiveWindow e = refl
+word_injective word.Identifiers word.Identifiers e = refl
 word_injective _ _ e = absurd (omega (arith, ap (λ (a : List ℕ). get_or a 0 0 + get_or a 2 0 + get_or a 4 0) e))
 
 head_parts : (at : ℕ) (w : Word) (now : ℕ) (r : List ℕ) → step_head at w now ++ r ≡ codes "step " ++ (decimal at ++ 32 ∷ (word_name w ++ 32 ∷ (decimal now ++ 10 ∷ r)))
@@ -184,12 +186,48 @@ need_back m n x y r s p q e =
     same : m ≡ n → x ≡ y → NeedIdentifiers m x ≡ NeedIdentifiers n y
     same u v = cc
 
+flag_is_token : (a : Bool) → is_token (flag_text a) ≡ true
+unfolding flag_text
+flag_is_token false = refl
+flag_is_token true = refl
+
+flag_injective : (a b : Bool) → flag_text a ≡ flag_text b → a ≡ b
+unfolding flag_text
+flag_injective false false e = refl
+flag_injective true true e = refl
+flag_injective _ _ e = absurd (omega (arith, ap (λ (a : List ℕ). get_or a 0 0) e))
+
+retired_parts : (sequence : ℕ) (more : Bool) (r : List ℕ) → retired_text sequence more ++ r ≡ decimal sequence ++ 32 ∷ (flag_text more ++ r)
+unfolding retired_text
+retired_parts sequence more r = simp append_assoc
+
+retire_front : (time sequence : ℕ) (more : Bool) (r : List ℕ) → retire_text time sequence more ++ r ≡ codes "endpoint retire " ++ (decimal time ++ 32 ∷ (retired_text sequence more ++ 10 ∷ r))
+unfolding retire_text
+retire_front time sequence more r = simp append_assoc
+
+retire_parts : (time sequence : ℕ) (more : Bool) (r : List ℕ) → retire_text time sequence more ++ r ≡ codes "endpoint retire " ++ (decimal time ++ 32 ∷ (decimal sequence ++ 32 ∷ (flag_text more ++ 10 ∷ r)))
+retire_parts time sequence more r = retire_front time sequence more r ∙ ap (λ (z : List ℕ). codes "endpoint retire " ++ (decimal time ++ 32 ∷ z)) (retired_parts sequence more (10 ∷ r))
+
+retire_back : (m n x y : ℕ) (f g : Bool) (r s : List ℕ) → IsEndpointTold (RetireConnectionId m x f) → IsEndpointTold (RetireConnectionId n y g)
+    → retire_text m x f ++ r ≡ retire_text n y g ++ s → (RetireConnectionId m x f ≡ RetireConnectionId n y g) × (r ≡ s)
+retire_back m n x y f g r s p q e =
+    let parts = sym (retire_parts m x f r) ∙ e ∙ retire_parts n y g s in
+    let time = number_back m n 32 32 _ _ (omega arith) (omega arith) refl refl (ap (drop 16) parts) in
+    let sequence = number_back x y 32 32 _ _ (omega arith) (omega arith) refl refl (ap (drop 1) time.1) in
+    let flag = token_back (flag_text f) (flag_text g) 10 10 r s (flag_is_token f) (flag_is_token g) refl refl (ap (drop 1) sequence.1) in
+    (same time.0 sequence.0 (flag_injective f g flag.0), ap (drop 1) flag.1)
+  where
+    same : m ≡ n → x ≡ y → f ≡ g → RetireConnectionId m x f ≡ RetireConnectionId n y g
+    same u v w = cc
+
+-- the twelfth letters differ
 endpoint_back : (a b : EndpointEvent) (r s : List ℕ) → IsEndpointTold a → IsEndpointTold b → endpoint_text a ++ r ≡ endpoint_text b ++ s → (a ≡ b) × (r ≡ s)
-unfolding endpoint_text reset_token_text need_text
+unfolding endpoint_text reset_token_text need_text retire_text
 endpoint_back (ResetToken a j) (ResetToken b k) r s p q e = reset_token_back a b j k r s p q e
 endpoint_back (NeedIdentifiers m x) (NeedIdentifiers n y) r s p q e = need_back m n x y r s p q e
+endpoint_back (RetireConnectionId m x f) (RetireConnectionId n y g) r s p q e = retire_back m n x y f g r s p q e
 endpoint_back Drained Drained r s p q e = (refl, ap (drop 17) e)
-endpoint_back _ _ r s p q e = absurd (omega (arith, ap (λ (a : List ℕ). get_or a 9 0) e))
+endpoint_back _ _ r s p q e = absurd (omega (arith, ap (λ (a : List ℕ). get_or a 11 0) e))
 
 timer_back : (a b : Option ℕ) (r s : List ℕ) → IsOptionInRange a → IsOptionInRange b → timer_text a ++ r ≡ timer_text b ++ s → (a ≡ b) × (r ≡ s)
 unfolding timer_text
@@ -249,9 +287,10 @@ event_begins DatagramReceived r = (refl, refl)
 event_begins (Stream event) r = (refl, refl)
 
 endpoint_begins : (a : EndpointEvent) (r : List ℕ) → (is_event (endpoint_text a ++ r) ≡ false) × (is_endpoint (endpoint_text a ++ r) ≡ true) × (is_after_answer (endpoint_text a ++ r) ≡ true)
-unfolding is_event is_endpoint endpoint_text reset_token_text need_text
+unfolding is_event is_endpoint endpoint_text reset_token_text need_text retire_text
 endpoint_begins (ResetToken remote token) r = (refl, refl, refl)
 endpoint_begins (NeedIdentifiers time count) r = (refl, refl, refl)
+endpoint_begins (RetireConnectionId time sequence more) r = (refl, refl, refl)
 endpoint_begins Drained r = (refl, refl, refl)
 
 timer_begins : (a : Option ℕ) (r : List ℕ) → (is_event (timer_text a ++ r) ≡ false) × (is_endpoint (timer_text a ++ r) ≡ false) × (is_after_answer (timer_text a ++ r) ≡ true)

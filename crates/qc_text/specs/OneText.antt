@@ -15,7 +15,7 @@ use Rattle.qc_frame.specs.FrameSpelling.{spelling}
 use Rattle.qc_state.specs.declared.deeds.Did.{Did}
 use Rattle.qc_state.specs.declared.deeds.Did.TheVariants as deed
 use Rattle.qc_state.specs.declared.events.EndpointEvent.{EndpointEvent}
-use Rattle.qc_state.specs.declared.events.EndpointEvent.TheVariants.{ResetToken, NeedIdentifiers, Drained}
+use Rattle.qc_state.specs.declared.events.EndpointEvent.TheVariants.{ResetToken, NeedIdentifiers, RetireConnectionId, Drained}
 use Rattle.qc_state.specs.declared.events.Event.{Event}
 use Rattle.qc_state.specs.declared.events.Event.TheVariants.{HandshakeDataReady, Connected, ConnectionLost, DatagramReceived, Stream}
 use Rattle.qc_state.specs.declared.life.ConnectionError.{ConnectionError}
@@ -125,10 +125,12 @@ IsEventInRange DatagramReceived = Unit {0}
 IsEventInRange (Stream event) = IsStreamEventInRange event
 
 -- a token is bytes, and holds for an address in range; the time at which identifiers are wanted and how many they are have
--- 64 bits; that the connection's state can be dropped holds nothing
+-- 64 bits, as have the time at which one was retired and its sequence number; that the connection's state can be dropped holds
+-- nothing
 abbrev pub IsEndpointInRange : EndpointEvent → Type 0
 IsEndpointInRange (ResetToken remote token) = IsAddressInRange remote × IsBytes token
 IsEndpointInRange (NeedIdentifiers time count) = (time < 2 ^ 64) × (count < 2 ^ 64)
+IsEndpointInRange (RetireConnectionId time sequence more) = (time < 2 ^ 64) × (sequence < 2 ^ 64)
 IsEndpointInRange Drained = Unit {0}
 
 -- each number of a step is one of 64 bits, each byte is a byte, and an address has its octets and a port of 16 bits

@@ -20,13 +20,13 @@ use Rattle.qc_frame.specs.declared.frames.FrameOf.TheVariants as frames
 use Rattle.qc_state.specs.declared.deeds.Did.{Did}
 use Rattle.qc_state.specs.declared.deeds.Did.TheVariants as deed
 use Rattle.qc_state.specs.declared.deeds.Layer.{Layer}
-use Rattle.qc_state.specs.declared.deeds.Layer.TheVariants.{Streams, Recovery, Session, Life}
+use Rattle.qc_state.specs.declared.deeds.Layer.TheVariants.{Streams, Recovery, Session, Ids, Life}
 use Rattle.qc_state.specs.declared.deeds.Quiet.{Quiet}
 use Rattle.qc_state.specs.declared.deeds.Quiet.TheVariants.{NothingOwed, Silent, Amplification, Killed}
 use Rattle.qc_state.specs.declared.deeds.Verdict.{Verdict}
 use Rattle.qc_state.specs.declared.deeds.Verdict.TheVariants.{Ignored, Failure, BadBits, Seen, ReadForClose, NumberOnly, AckOnly, Admitted}
 use Rattle.qc_state.specs.declared.events.EndpointEvent.{EndpointEvent}
-use Rattle.qc_state.specs.declared.events.EndpointEvent.TheVariants.{ResetToken, NeedIdentifiers, Drained}
+use Rattle.qc_state.specs.declared.events.EndpointEvent.TheVariants.{ResetToken, NeedIdentifiers, RetireConnectionId, Drained}
 use Rattle.qc_state.specs.declared.events.Event.{Event}
 use Rattle.qc_state.specs.declared.events.Event.TheVariants.{HandshakeDataReady, Connected, ConnectionLost, DatagramReceived, Stream}
 use Rattle.qc_state.specs.declared.input.Word.{Word}
@@ -133,10 +133,11 @@ unfoldable pub layer_name : Layer → List ℕ
 layer_name Streams = codes "streams"
 layer_name Recovery = codes "recovery"
 layer_name Session = codes "session"
+layer_name Ids = codes "ids"
 layer_name Life = codes "life"
 
 -- the name of the kind of frames with this type, of the kinds that layers are given (RFC 9000, sections 19.3 to 19.5, 19.8 to
--- 19.11, 19.19 and 19.20; RFC 9221, section 4); `-` for another one. The types of STREAM frames are those from 0x08 to 0x0f.
+-- 19.11, 19.15, 19.16, 19.19 and 19.20; RFC 9221, section 4); `-` for another one. The types of STREAM frames are those from 0x08 to 0x0f.
 unfoldable pub type_name : ℕ → List ℕ
 type_name type =
     if (type == 0x02) || (type == 0x03) then codes "ACK"
@@ -146,6 +147,8 @@ type_name type =
     else if type == 0x10 then codes "MAX_DATA"
     else if type == 0x11 then codes "MAX_STREAM_DATA"
     else if (type == 0x12) || (type == 0x13) then codes "MAX_STREAMS"
+    else if type == 0x18 then codes "NEW_CONNECTION_ID"
+    else if type == 0x19 then codes "RETIRE_CONNECTION_ID"
     else if type == 0x1c then codes "CONNECTION_CLOSE"
     else if type == 0x1d then codes "APPLICATION_CLOSE"
     else if type == 0x1e then codes "HANDSHAKE_DONE"
@@ -166,6 +169,8 @@ IsGiven (frames.Stream id offset fin body) = Unit {0}
 IsGiven (frames.MaxData limit) = Unit {0}
 IsGiven (frames.MaxStreamData id limit) = Unit {0}
 IsGiven (frames.MaxStreams dir count) = Unit {0}
+IsGiven (frames.NewConnectionId issued) = Unit {0}
+IsGiven (frames.RetireConnectionId sequence) = Unit {0}
 IsGiven (frames.ConnectionClose code type reason) = Unit {0}
 IsGiven (frames.ApplicationClose code reason) = Unit {0}
 IsGiven frames.HandshakeDone = Unit {0}
@@ -181,6 +186,7 @@ unfoldable pub given_text : Layer → List ℕ → List ℕ
 given_text Streams body = named_text body
 given_text Recovery body = named_text body
 given_text Session body = encode_lower body
+given_text Ids body = named_text body
 given_text Life body = named_text body
 
 -- the line of what a layer was given: the layer, and what it was
@@ -323,11 +329,25 @@ reset_token_text remote token = codes "endpoint reset-token " ++ address_text re
 unfoldable pub need_text : (time count : ℕ) → List ℕ
 need_text time count = codes "endpoint need " ++ decimal time ++ codes " " ++ decimal count ++ codes "\n"
 
--- the line of what the endpoint is told: the peer's token, that identifiers are wanted, or that the connection's state can
--- be dropped
+-- whether something is so, as a digit
+unfoldable pub flag_text : Bool → List ℕ
+flag_text false = codes "0"
+flag_text true = codes "1"
+
+-- an identifier that the peer retired: its sequence number, and whether one more is wanted in its place
+unfoldable pub retired_text : (sequence : ℕ) → (more : Bool) → List ℕ
+retired_text sequence more = decimal sequence ++ codes " " ++ flag_text more
+
+-- the line of such an identifier, with the time (RFC 9000, section 19.16)
+unfoldable pub retire_text : (time sequence : ℕ) → (more : Bool) → List ℕ
+retire_text time sequence more = codes "endpoint retire " ++ decimal time ++ codes " " ++ retired_text sequence more ++ codes "\n"
+
+-- the line of what the endpoint is told: the peer's token, that identifiers are wanted, that the peer retired one, or that the
+-- connection's state can be dropped
 unfoldable pub endpoint_text : EndpointEvent → List ℕ
 endpoint_text (ResetToken remote token) = reset_token_text remote token
 endpoint_text (NeedIdentifiers time count) = need_text time count
+endpoint_text (RetireConnectionId time sequence more) = retire_text time sequence more
 endpoint_text Drained = codes "endpoint drained\n"
 
 -- the line of the time at which the connection wants to be called again if no input comes before
@@ -353,6 +373,7 @@ word_name word.Ping = codes "ping"
 word_name word.MaxStreams = codes "streams"
 word_name word.SendWindow = codes "sendwindow"
 word_name word.ReceiveWindow = codes "recvwindow"
+word_name word.Identifiers = codes "ids"
 
 -- the first line of a step: the place of its input in the list of inputs, and the input's kind and time
 unfoldable pub step_head : ℕ → Word → ℕ → List ℕ

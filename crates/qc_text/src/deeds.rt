@@ -136,6 +136,7 @@ fn put_given(out: &mut Vec<u8>, layer: Layer, body: &[u8]) -> Result<(), AllocEr
         Layer::Streams => put_named(out, body),
         Layer::Recovery => put_named(out, body),
         Layer::Session => put_hex(out, body),
+        Layer::Ids => put_named(out, body),
         Layer::Life => put_named(out, body),
     }
 }

@@ -29,6 +29,7 @@ pub fn word_of(word: Word) -> &'static [u8]
         Word::MaxStreams => b"streams",
         Word::SendWindow => b"sendwindow",
         Word::ReceiveWindow => b"recvwindow",
+        Word::Identifiers => b"ids",
     }
 }
 
@@ -92,6 +93,7 @@ pub fn layer_of(layer: Layer) -> &'static [u8]
         Layer::Streams => b"streams",
         Layer::Recovery => b"recovery",
         Layer::Session => b"session",
+        Layer::Ids => b"ids",
         Layer::Life => b"life",
     }
 }
@@ -132,6 +134,12 @@ fn type_of(first: u8) -> &'static [u8]
     }
     if first == 0x12 || first == 0x13 {
         return b"MAX_STREAMS";
+    }
+    if first == 0x18 {
+        return b"NEW_CONNECTION_ID";
+    }
+    if first == 0x19 {
+        return b"RETIRE_CONNECTION_ID";
     }
     if first == 0x1c {
         return b"CONNECTION_CLOSE";

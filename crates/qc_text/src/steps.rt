@@ -4,7 +4,7 @@ ghost use Rattle.std.specs.Prelude.{◌≡◌, ◌<◌, ◌^◌, ◌++◌, OnOk}
 ghost use Rattle.std.specs.List.{All, flat_map};
 ghost use Rattle.qc_base.specs.Grammar.{IsBytes};
 ghost use Rattle.qc_text.specs.OneText.{IsAddressInRange, IsAnswerInRange, IsEndpointInRange, IsEventInRange, IsInRange, IsOptionInRange};
-ghost use Rattle.qc_text.specs.TraceText.{answer_text, ecn_text, endpoint_text, event_text, marks_text, need_text, nothing_text, out_text, reset_token_text, step_head, step_text, target_text, timer_text};
+ghost use Rattle.qc_text.specs.TraceText.{answer_text, ecn_text, endpoint_text, event_text, marks_text, flag_text, need_text, nothing_text, out_text, reset_token_text, retire_text, retired_text, step_head, step_text, target_text, timer_text};
 
 use crate::deeds::{put_dids, put_reason};
 use crate::digits::put_hex;
@@ -177,6 +177,9 @@ fn put_endpoint_event(out: &mut Vec<u8>, event: EndpointEvent) -> Result<(), All
     match event {
         EndpointEvent::ResetToken(remote, token) => put_reset_token(out, remote, token),
         EndpointEvent::NeedIdentifiers(now, count) => put_need(out, now, count),
+        EndpointEvent::RetireConnectionId(now, sequence, more) => {
+            put_retire(out, now, sequence, more)
+        }
         EndpointEvent::Drained => out.extend_from_slice(b"endpoint drained\n"),
     }
 }
@@ -207,6 +210,38 @@ fn put_need(out: &mut Vec<u8>, now: Instant, count: u64) -> Result<(), AllocErro
     out.extend_from_slice(b" ")?;
     put_number(out, count)?;
     out.extend_from_slice(b"\n")
+}
+
+#[tactic(auto, unfolding(crate::specs::TraceText::retire_text))]
+fn put_retire(out: &mut Vec<u8>, now: Instant, sequence: u64, more: bool) -> Result<(), AllocError>
+    ensures text { OnOk result (out.new.items ≡ out.old.items ++ retire_text now sequence more) }
+    ensures in_range { OnOk result ((now < 2 ^ 64) × (sequence < 2 ^ 64)) }
+{
+    out.extend_from_slice(b"endpoint retire ")?;
+    put_number(out, now.nanos())?;
+    out.extend_from_slice(b" ")?;
+    put_retired(out, sequence, more)?;
+    out.extend_from_slice(b"\n")
+}
+
+#[tactic(auto, unfolding(crate::specs::TraceText::retired_text))]
+fn put_retired(out: &mut Vec<u8>, sequence: u64, more: bool) -> Result<(), AllocError>
+    ensures text { OnOk result (out.new.items ≡ out.old.items ++ retired_text sequence more) }
+    ensures in_range { OnOk result (sequence < 2 ^ 64) }
+{
+    put_number(out, sequence)?;
+    out.extend_from_slice(b" ")?;
+    put_flag(out, more)
+}
+
+#[tactic(auto, unfolding(crate::specs::TraceText::flag_text))]
+fn put_flag(out: &mut Vec<u8>, flag: bool) -> Result<(), AllocError>
+    ensures { OnOk result (out.new.items ≡ out.old.items ++ flag_text flag) }
+{
+    if flag {
+        return out.extend_from_slice(b"1");
+    }
+    out.extend_from_slice(b"0")
 }
 
 #[tactic(auto, unfolding(crate::specs::TraceText::timer_text))]

@@ -1,6 +1,8 @@
 //! Lines of each form, and those at the edges of them.
 
-use qc_base::{ConnectionId, Dir, EcnCodepoint, Instant, Side, VarInt};
+ghost use Rattle.std.specs.Prelude.{◌≤◌, length};
+
+use qc_base::{ConnectionId, Dir, EcnCodepoint, Instant, IssuedCid, ResetToken, Side, VarInt};
 use qc_script::{RandomWords, Script, ScriptError, Settings, read_script};
 use qc_state::Input;
 use std::alloc::Global;
@@ -271,6 +273,66 @@ fn calls_of_streams_are_read(rt: HostRuntime) -> Result<(), Fail> {
     Ok(())
 }
 
+/// An id with this number and these bytes.
+fn issued(sequence: u64, id: &[u8], token: [u8; 16]) -> IssuedCid
+    requires { length id.now ≤ 20 }
+{
+    IssuedCid {
+        sequence,
+        id: ConnectionId::new(id),
+        reset_token: ResetToken::from(token),
+    }
+}
+
+/// Whether an input at this time gives these ids.
+fn gives(input: &Input, time: u64, given: &[IssuedCid]) -> bool {
+    match input {
+        Input::Identifiers { now, ids } => now.nanos() == time && ids.as_slice() == given,
+        _ => false,
+    }
+}
+
+/// Whether the input of this line gives these ids at this time.
+fn is_giving(alloc: Global, line: &str, time: u64, given: &[IssuedCid]) -> Result<bool, Fail> {
+    let input = input_of(alloc, line)?;
+    Ok(gives(&input, time, given))
+}
+
+/// The bytes from 0 to 15.
+const COUNTED: [u8; 16] = [0, 1, 2, 3, 4, 5, 6, 7, 8, 9, 10, 11, 12, 13, 14, 15];
+
+// The second line has an id of 20 bytes, one without bytes, and the first one once more: neither the numbers nor the ids need be such
+// as a connection takes.
+#[test]
+fn ids_are_read(rt: HostRuntime) -> Result<(), Fail> {
+    let short = issued(0, &[10], COUNTED);
+    let long = issued(
+        u64::MAX,
+        &[
+            1, 2, 3, 4, 5, 6, 7, 8, 9, 10, 11, 12, 13, 14, 15, 16, 17, 18, 19, 255,
+        ],
+        [255; 16],
+    );
+    let empty = issued(8, &[], [0; 16]);
+    assert!(rt;
+        is_giving(
+            rt.alloc(),
+            "ids 7 0:0a:000102030405060708090a0b0c0d0e0f",
+            7,
+            &[short]
+        )?
+    );
+    assert!(rt;
+        is_giving(
+            rt.alloc(),
+            "ids 18446744073709551615 18446744073709551615:0102030405060708090a0b0c0d0e0f10111213ff:ffffffffffffffffffffffffffffffff 8:-:00000000000000000000000000000000 0:0a:000102030405060708090a0b0c0d0e0f",
+            u64::MAX,
+            &[long, empty, short],
+        )?
+    );
+    Ok(())
+}
+
 /// A line of a datagram, and what it tells but for its time, which is 7.
 #[derive(Clone, Copy)]
 struct Case<'a> {
@@ -433,6 +495,46 @@ const BAD_LINES: &[&str] = &[
     "recvwindow 7",
     "recvwindow 7 4611686018427387904",
     "reads 7 1 1",
+    // Ids: none, and a time that is missing or too great.
+    "ids",
+    "ids ",
+    "ids 7",
+    "ids 7 ",
+    "ids 7 -",
+    "ids 1:0a:000102030405060708090a0b0c0d0e0f",
+    "ids 18446744073709551616 1:0a:000102030405060708090a0b0c0d0e0f",
+    "ids7 1:0a:000102030405060708090a0b0c0d0e0f",
+    "id 7 1:0a:000102030405060708090a0b0c0d0e0f",
+    // Parts that are missing, or one too many.
+    "ids 7 1",
+    "ids 7 1:0a",
+    "ids 7 1:000102030405060708090a0b0c0d0e0f",
+    "ids 7 0a:000102030405060708090a0b0c0d0e0f",
+    "ids 7 :0a:000102030405060708090a0b0c0d0e0f",
+    "ids 7 1::000102030405060708090a0b0c0d0e0f",
+    "ids 7 1:0a:",
+    "ids 7 1:0a:-",
+    "ids 7 1:0a:000102030405060708090a0b0c0d0e0f:0a",
+    // Numbers: 2^64, with a zero in front, and none that is decimal.
+    "ids 7 18446744073709551616:0a:000102030405060708090a0b0c0d0e0f",
+    "ids 7 01:0a:000102030405060708090a0b0c0d0e0f",
+    "ids 7 -:0a:000102030405060708090a0b0c0d0e0f",
+    "ids 7 a:0a:000102030405060708090a0b0c0d0e0f",
+    // Bytes: an id of 21, odd digits and upper case, and tokens of 15 and 17.
+    "ids 7 1:0102030405060708090a0b0c0d0e0f101112131415:000102030405060708090a0b0c0d0e0f",
+    "ids 7 1:0a0:000102030405060708090a0b0c0d0e0f",
+    "ids 7 1:0A:000102030405060708090a0b0c0d0e0f",
+    "ids 7 1:0a:000102030405060708090a0b0c0d0e",
+    "ids 7 1:0a:000102030405060708090a0b0c0d0e0f10",
+    "ids 7 1:0a:000102030405060708090a0b0c0d0e0",
+    "ids 7 1:0a:000102030405060708090a0b0c0d0e0F",
+    // Spaces: two, one behind the last id, and another byte; and a second id that is none.
+    "ids 7  1:0a:000102030405060708090a0b0c0d0e0f",
+    "ids 7 1:0a:000102030405060708090a0b0c0d0e0f  2:0b:000102030405060708090a0b0c0d0e0f",
+    "ids 7 1:0a:000102030405060708090a0b0c0d0e0f ",
+    "ids 7 1:0a:000102030405060708090a0b0c0d0e0f,2:0b:000102030405060708090a0b0c0d0e0f",
+    "ids 7 1:0a:000102030405060708090a0b0c0d0e0f 2:0b",
+    "ids 7 1:0a:000102030405060708090a0b0c0d0e0f 2 3:0c:000102030405060708090a0b0c0d0e0f",
     "",
 ];
 

@@ -158,6 +158,20 @@ const GIVEN_TO_RECOVERY: &[(&[u8], &str)] = &[
     ),
 ];
 
+/// What the ids of both ends are given: an id of 4 bytes with number 1 and the token of the bytes from 0 to 15, and the retirement of
+/// the one with number 5. Frames of the types next to those have no name.
+const GIVEN_TO_IDS: &[(&[u8], &str)] = &[
+    (
+        &[
+            0x18, 1, 0, 4, 10, 11, 12, 13, 0, 1, 2, 3, 4, 5, 6, 7, 8, 9, 10, 11, 12, 13, 14, 15,
+        ],
+        "\ngave ids NEW_CONNECTION_ID/180100040a0b0c0d000102030405060708090a0b0c0d0e0f\n",
+    ),
+    (&[0x19, 5], "\ngave ids RETIRE_CONNECTION_ID/1905\n"),
+    (&[0x17, 5], "\ngave ids -/1705\n"),
+    (&[0x1a, 5], "\ngave ids -/1a05\n"),
+];
+
 /// What the streams are given: a reset and a stop of stream 0 with code 7; STREAM frames of stream 0 with neither an offset nor a
 /// length, and of stream 4 with both and the end; frames that give credit; and datagrams without and with a length. Frames of the types
 /// next to those have no name.
@@ -197,6 +211,9 @@ fn frames_that_layers_are_given(rt: HostRuntime) -> Result<(), Fail> {
             is_given(rt.alloc(), Layer::Streams, bytes, line)?,
             "{line}"
         );
+    }
+    for (bytes, line) in GIVEN_TO_IDS {
+        assert!(rt; is_given(rt.alloc(), Layer::Ids, bytes, line)?, "{line}");
     }
     given_frames_have_their_names();
     Ok(())
@@ -435,7 +452,8 @@ fn a_close_of_this_application(rt: HostRuntime) -> Result<(), Fail> {
     Ok(())
 }
 
-/// What the endpoint is told: a token, nothing, and that 7 ids were wanted at 5.
+/// What the endpoint is told: a token, nothing, that 7 ids were wanted at 5, and that at 9 the peer retired one in whose place one more
+/// is wanted, and at 10 the first one, in whose place none is.
 fn put_reports(endpoint: &mut EndpointEvents) -> Result<(), AllocError> {
     let ip = Ipv6Addr::new(0x2001, 0xdb8, 0, 0, 0, 0, 0, 1);
     let token = ResetToken::from([
@@ -444,7 +462,11 @@ fn put_reports(endpoint: &mut EndpointEvents) -> Result<(), AllocError> {
     let address = SocketAddr::new(IpAddr::V6(ip), 4433);
     endpoint.push(Some(EndpointEvent::ResetToken(address, token)))?;
     endpoint.push(None)?;
-    endpoint.push(Some(EndpointEvent::NeedIdentifiers(Instant::from_nanos(5), 7)))
+    endpoint.push(Some(EndpointEvent::NeedIdentifiers(Instant::from_nanos(5), 7)))?;
+    let retired = EndpointEvent::RetireConnectionId(Instant::from_nanos(9), u64::MAX, true);
+    endpoint.push(Some(retired))?;
+    let first = EndpointEvent::RetireConnectionId(Instant::from_nanos(10), 0, false);
+    endpoint.push(Some(first))
 }
 
 /// A step that tells the endpoint so.
@@ -461,7 +483,7 @@ fn reports_step(alloc: Global) -> Result<Step, AllocError> {
 fn reports_to_the_endpoint(rt: HostRuntime) -> Result<(), Fail> {
     let step = reports_step(rt.alloc())?;
     let told =
-        "qconn 1\nstep 0 datagram 5\nanswer done\nendpoint reset-token 20010db8000000000000000000000001/4433 f0f1f2f3f4f5f6f7f8f9fafbfcfdfeff\nendpoint need 5 7\ntimer -\nend\n";
+        "qconn 1\nstep 0 datagram 5\nanswer done\nendpoint reset-token 20010db8000000000000000000000001/4433 f0f1f2f3f4f5f6f7f8f9fafbfcfdfeff\nendpoint need 5 7\nendpoint retire 9 18446744073709551615 1\nendpoint retire 10 0 0\ntimer -\nend\n";
     assert!(rt; is_text(rt.alloc(), step, told)?);
     Ok(())
 }
@@ -507,6 +529,7 @@ const WORDS: &[(Word, &str)] = &[
     (Word::MaxStreams, "streams"),
     (Word::SendWindow, "sendwindow"),
     (Word::ReceiveWindow, "recvwindow"),
+    (Word::Identifiers, "ids"),
 ];
 
 /// Whether a step of this kind that answered so is told by this word and this line.

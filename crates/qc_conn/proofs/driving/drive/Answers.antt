@@ -5,12 +5,14 @@ use Rattle.qc_laws.proofs.CryptoKept.{run_keeps_bytes}
 use Rattle.qc_laws.proofs.EndsHold.{run_ends}
 use Rattle.qc_laws.proofs.EventsTold.{none_tells_done, none_tells_once, ran_tells_done, ran_tells_once, run_stays_done, run_tells_done, run_tells_once}
 use Rattle.qc_laws.proofs.HarmlessBytes.{run_harmless}
+use Rattle.qc_laws.proofs.IdsFold.{run_folds_ids}
 use Rattle.qc_laws.proofs.IdsHold.{run_ids}
 use Rattle.qc_laws.proofs.InitialLeft.{run_leaves}
 use Rattle.qc_laws.proofs.KeysHold.{run_keys_hold}
 use Rattle.qc_laws.proofs.MarksTold.{none_each_told, ran_each_told, run_each_told}
 use Rattle.qc_laws.proofs.PathsHold.{path_run}
 use Rattle.qc_laws.proofs.PostsFold.{run_posts}
+use Rattle.qc_laws.proofs.PostsSealed.{run_seals}
 use Rattle.qc_laws.proofs.PostsTaken.{run_takes}
 use Rattle.qc_laws.proofs.ReadsHold.{run_reads, run_within}
 use Rattle.qc_laws.proofs.WritesHold.{run_writes}
@@ -174,6 +176,12 @@ returns-clause-posts g c = of_trace _ _ _ _ c.drive_all.result _ c.drive_all.ens
 
 pub returns-clause-taken : goal.returns-clause-taken
 returns-clause-taken g c = λ new. of_trace _ _ _ _ c.drive_all.result _ c.drive_all.ensures.run (λ trace run. run_takes _ 0 _ _ trace _ run new)
+
+pub returns-clause-sent : goal.returns-clause-sent
+returns-clause-sent g c = λ new. of_trace _ _ _ _ c.drive_all.result _ c.drive_all.ensures.run (λ trace run. run_seals _ 0 _ _ trace _ run new)
+
+pub returns-clause-identifiers : goal.returns-clause-identifiers
+returns-clause-identifiers g c = of_trace _ _ _ _ c.drive_all.result _ c.drive_all.ensures.run (λ trace run. run_folds_ids _ 0 _ _ trace _ run)
 
 -- the empty trace is a run over no inputs
 pub returns-then-is_failed-clause-part : goal.returns-then-is_failed-clause-part

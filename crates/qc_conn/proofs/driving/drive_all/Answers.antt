@@ -1,5 +1,5 @@
 use Rattle.std.proofs.Common.{ap, length, arith, refl, sym, ◌∙◌}
-use Rattle.qc_conn.proofs.Refusals.{takes_none, takes_next, refused_at}
+use Rattle.qc_conn.proofs.Refusals.{next_good, takes_none, takes_next, refused_at}
 use Rattle.qc_laws.proofs.Steps.{run_empty, ran_kept, run_next, added_length, ran}
 use Rattle.qc_conn.proofs.Counting.{none_counted, one_counted, counted_before}
 use Rattle.qc_conn.proofs.driving.drive_all.Goals as goal
@@ -14,6 +14,10 @@ loop-input-init g c = record {
   alive = c.requires.alive;
   steps = none_counted _ _ c.steps-before.ensures.fits c.new-trace.ensures;
 }
+
+-- this input asks for a call that can be made
+pub add_step-requires-clause-good : goal.add_step-requires-clause-good
+add_step-requires-clause-good g c = next_good _ _ _ _ _ _ _ _ c.loop-input-test.true c.input-item.is c.loop-input.invariant.place c.loop-input.invariant.taken (sym c.refusal.ensures ∙ c.in_default.is)
 
 -- the steps before stand
 pub returns-in-Err-clause-part : goal.returns-in-Err-clause-part

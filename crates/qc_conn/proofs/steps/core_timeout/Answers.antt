@@ -21,6 +21,10 @@ pub returns-clause-paced : goal.returns-clause-paced
 returns-clause-paced g c =
     on_ok_weaker c.handle_timeout.result (λ later alive. later (still_alive g.U.Random.Rng.stream c.args.core.now c.clock.new.self c.args.now c.clock.ensures alive)) c.handle_timeout.ensures.paced
 
+pub returns-clause-aged : goal.returns-clause-aged
+returns-clause-aged g c =
+    on_ok_weaker c.handle_timeout.result (λ later alive. later (still_alive g.U.Random.Rng.stream c.args.core.now c.clock.new.self c.args.now c.clock.ensures alive)) c.handle_timeout.ensures.ids
+
 pub returns-clause-held : goal.returns-clause-held
 returns-clause-held g c =
     on_ok_weaker c.handle_timeout.result (λ later alive. later (still_alive g.U.Random.Rng.stream c.args.core.now c.clock.new.self c.args.now c.clock.ensures alive)) c.handle_timeout.ensures.ack

@@ -1,5 +1,5 @@
 use Rattle.qc_conn.proofs.NewEnds.{first_ends}
-use Rattle.qc_conn.proofs.NewLaws.{first_acks, first_kept, first_new, first_streams, first_timer, first_unposted}
+use Rattle.qc_conn.proofs.NewLaws.{first_acks, first_kept, first_new, first_streams, first_timer, first_unposted, first_used}
 use Rattle.qc_conn.proofs.RunsPlain.{first_plain, first_told}
 use Rattle.qc_conn.proofs.connection.Connection.new_client.Goals as goal
 
@@ -38,3 +38,7 @@ returns-clause-streams g c = first_new g.U.Random.Rng.stream _ _ _ _ c.args.setu
 -- no datagram came
 pub returns-clause-datagrams : goal.returns-clause-datagrams
 returns-clause-datagrams g c = first_unposted g.U.Random.Rng.stream _ _ _ _ c.args.setup.remote c.args.setup.first_cid _ _ _ c.args.now c.in_ok-core.core c.in_ok-core.ensures.made
+
+-- packets carry the one id of the peer that is known
+pub returns-clause-ids : goal.returns-clause-ids
+returns-clause-ids g c = first_used g.U.Random.Rng.stream _ _ _ _ c.args.setup.remote c.args.setup.first_cid _ _ _ c.args.now c.in_ok-core.core c.in_ok-core.ensures.made

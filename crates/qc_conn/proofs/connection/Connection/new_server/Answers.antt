@@ -1,5 +1,5 @@
 use Rattle.qc_conn.proofs.NewEnds.{server_ends}
-use Rattle.qc_conn.proofs.NewLaws.{server_acks, server_kept, server_new, server_streams, server_timer, server_unposted}
+use Rattle.qc_conn.proofs.NewLaws.{server_acks, server_kept, server_new, server_streams, server_timer, server_unposted, server_used}
 use Rattle.qc_conn.proofs.RunsPlain.{server_plain, server_told}
 use Rattle.qc_conn.proofs.connection.Connection.new_server.Goals as goal
 
@@ -38,3 +38,7 @@ returns-clause-streams g c = server_new g.U.Random.Rng.stream _ _ _ _ c.args.set
 -- no datagram came
 pub returns-clause-datagrams : goal.returns-clause-datagrams
 returns-clause-datagrams g c = server_unposted g.U.Random.Rng.stream _ _ _ _ c.args.setup.remote c.args.setup.remote_cid c.args.setup.validated _ _ c.args.now c.in_ok-core.core c.in_ok-core.ensures
+
+-- packets carry the one id of the peer that is known
+pub returns-clause-ids : goal.returns-clause-ids
+returns-clause-ids g c = server_used g.U.Random.Rng.stream _ _ _ _ c.args.setup.remote c.args.setup.remote_cid c.args.setup.validated _ _ c.args.now c.in_ok-core.core c.in_ok-core.ensures

@@ -1,8 +1,8 @@
-use Rattle.qc_state.proofs.flight.keep.Goals as goal
+use Rattle.qc_state.proofs.flight.keep_numbers.Goals as goal
 
 -- a frame of the streams without bytes is kept as it is
 pub returns-in-ResetStream : goal.returns-in-ResetStream
-returns-in-ResetStream c = rw c.in-ResetStream.is c.push-in-ResetStream.ensures.ok
+returns-in-ResetStream c = rw c.in-ResetStream.is c.push.ensures.ok
 
 pub returns-in-StopSending : goal.returns-in-StopSending
 returns-in-StopSending c = rw c.in-StopSending.is c.push-in-StopSending.ensures.ok
