@@ -5,6 +5,9 @@ pub mod RunsPlain
 pub mod Reports
 pub mod Firsts
 mod NewEnds
+mod NewIds
 mod NewLaws
 mod Stores
 pub mod StreamCalls
+pub mod MarkSteps
+mod Marks

@@ -1,3 +1,5 @@
+pub mod Lending
+pub mod Parts
 pub mod Refusal
 pub mod RefusedText
 pub mod Seen

@@ -3,7 +3,7 @@
 ghost use Rattle.std.specs.Prelude.{◌≡◌, ◌<◌, ◌≤◌, [], true, false, length, None, Err, OnOk, OnErr, IfOk, IfSome, max, unwrap_or, string_bytes};
 ghost use Rattle.qc_text.specs.OneText.{IsPlainAddress, IsPlainStart};
 ghost use Rattle.qc_conn.specs.Opened.{OnDone, lost_of};
-ghost use Rattle.qc_conn.specs.Seen.{Sends, counted};
+ghost use Rattle.qc_conn.specs.Seen.{Sends, counted, with_streams};
 ghost use Rattle.qc_receive.specs.Cutting.{rest_of};
 ghost use Rattle.qc_receive.specs.Events.{GivesRight, IsExpected, LeavesBytes, handed_after, time_of_event};
 ghost use Rattle.qc_receive.specs.FirstPacket.{IsFirstPacket, first_reason, size_of};
@@ -23,6 +23,7 @@ ghost use Rattle.qc_cids.specs.Cids.{give_refusal};
 ghost use Rattle.qc_conn.specs.Refusal.{bad_call};
 ghost use Rattle.qc_state.specs.Run.{began, time_of, close_after, IsStep};
 ghost use Rattle.qc_state.specs.Timeouts.{timeout_after};
+ghost use Rattle.qc_laws.specs.CidLaws.{HasNewIds};
 ghost use Rattle.qc_laws.specs.IdLaws.{CarriesUsed};
 ghost use Rattle.qc_laws.specs.PostLaws.{HasNewDatagrams};
 ghost use Rattle.qc_laws.specs.ReadLaws.{HasNewStreams};
@@ -31,6 +32,7 @@ ghost use Rattle.qc_laws.specs.TimerLaws.{TimerHolds};
 ghost use Rattle.qc_state.specs.Timers.{has_come, next_timeout};
 ghost use Rattle.qc_state.specs.View.{ideal};
 ghost use Rattle.qc_streams.specs.Counts.{by_dir};
+ghost use Rattle.qc_streams.specs.Streams.{failed};
 ghost use Rattle.qc_streams.specs.Settings.{max_concurrent_set, receive_window_set, send_window_set};
 ghost use Rattle.qc_streams.specs.Waits.{ConcurrentSet, ReceiveWindowSet, SendWindowSet};
 
@@ -52,12 +54,12 @@ use std::net::SocketAddr;
 
 /// A connection. It does no input or output: inputs are handed in, and what is to be sent comes out of `poll_transmit`.
 ///
-/// A call that answers `OutOfMemory` marks the connection as failed; from then on each call that can want memory answers
-/// `Failed`, nothing is sealed and no packet number is taken.
+/// A call that answers `OutOfMemory` marks the connection as failed, be it one of its own or one of the views that it lends of its
+/// streams; from then on each call that can want memory answers `Failed`, nothing is sealed and no packet number is taken. The mark
+/// stands in the state of the streams, which the views share with it.
 #[derive(Drop)]
 pub struct Connection<U: Suite> {
-    core: Core<U>,
-    failed: bool,
+    pub(crate) core: Core<U>,
     steps: u64,
 }
 
@@ -75,7 +77,7 @@ impl<U: Suite> Model for Connection<U> {
 
     ghost Value = { Seen (record { S = U.Session; H = U.Session.HeaderKey; P = U.Session.PacketKey; D = U.Session.HandshakeData; I = U.Session.PeerIdentity; C = U.Control.Controller }) U.Random };
 
-    ghost view = { λ c. record { core = c.core; failed = c.failed; steps = c.steps } };
+    ghost view = { λ c. record { core = c.core; failed = c.core.lower.streams.failed; steps = c.steps } };
 }
 
 /// A token of this server, taken out of the store; one without bytes where the store has none.
@@ -116,16 +118,13 @@ impl<U: Suite> Connection<U> {
         ensures streams { IfOk result (λ c. HasNewStreams (ideal U.Random.stream c.core)) }
         ensures datagrams { IfOk result (λ c. HasNewDatagrams (ideal U.Random.stream c.core)) }
         ensures ids { IfOk result (λ c. CarriesUsed (ideal U.Random.stream c.core)) }
+        ensures new_ids { IfOk result (λ c. HasNewIds (ideal U.Random.stream c.core)) }
         ensures alive { IfOk result (λ c. c.failed ≡ false) }
         ensures store { OnOk result (store.new ≡ G.after_take store.old (string_bytes setup.server_name)) }
     {
         let token = token_of(store, setup.server_name.as_str())?;
         let core = qc_making::new_client(alloc, setup, token, now)?;
-        Ok(Connection {
-            core,
-            failed: false,
-            steps: 0,
-        })
+        Ok(Connection { core, steps: 0 })
     }
 
     /// A server's connection, made at `now` of a server's session that has neither read nor written, for a client whose first
@@ -151,14 +150,11 @@ impl<U: Suite> Connection<U> {
         ensures streams { IfOk result (λ c. HasNewStreams (ideal U.Random.stream c.core)) }
         ensures datagrams { IfOk result (λ c. HasNewDatagrams (ideal U.Random.stream c.core)) }
         ensures ids { IfOk result (λ c. CarriesUsed (ideal U.Random.stream c.core)) }
+        ensures new_ids { IfOk result (λ c. HasNewIds (ideal U.Random.stream c.core)) }
         ensures alive { IfOk result (λ c. c.failed ≡ false) }
     {
         let core = qc_making::new_server(alloc, setup, now)?;
-        Ok(Connection {
-            core,
-            failed: false,
-            steps: 0,
-        })
+        Ok(Connection { core, steps: 0 })
     }
 
     /// Whether this is a server that waits for its first packet: then `first_datagram` takes what comes, and else `handle_event`.
@@ -195,7 +191,7 @@ impl<U: Suite> Connection<U> {
         ensures cause { result ≡ Err Fault.Failed → self.old.failed ≡ true }
         ensures memory { result ≡ Err Fault.OutOfMemory → self.new.failed ≡ true }
     {
-        if self.failed {
+        if self.is_failed() {
             return Err(Fault::Failed);
         }
         let coming = Coming {
@@ -206,7 +202,7 @@ impl<U: Suite> Connection<U> {
         match core_first(&mut self.core, alloc, &coming, bytes) {
             Ok(taken) => Ok(taken),
             Err(_) => {
-                self.failed = true;
+                self.fail();
                 Err(Fault::OutOfMemory)
             }
         }
@@ -240,13 +236,13 @@ impl<U: Suite> Connection<U> {
         ensures store { store.new ≡ store.old }
     {
         let _store = store;
-        if self.failed {
+        if self.is_failed() {
             return Err(Fault::Failed);
         }
         match core_event(&mut self.core, alloc, event) {
             Ok(()) => Ok(()),
             Err(_) => {
-                self.failed = true;
+                self.fail();
                 Err(Fault::OutOfMemory)
             }
         }
@@ -283,7 +279,7 @@ impl<U: Suite> Connection<U> {
         ensures cause { result ≡ Err (FirstError.Fault Fault.Failed) → self.old.failed ≡ true }
         ensures memory { result ≡ Err (FirstError.Fault Fault.OutOfMemory) → self.new.failed ≡ true }
     {
-        if self.failed {
+        if self.is_failed() {
             return Err(FirstError::Fault(Fault::Failed));
         }
         let coming = Coming {
@@ -302,7 +298,7 @@ impl<U: Suite> Connection<U> {
             Ok(None) => Ok(()),
             Ok(Some(why)) => Err(FirstError::Lost(why)),
             Err(_) => {
-                self.failed = true;
+                self.fail();
                 Err(FirstError::Fault(Fault::OutOfMemory))
             }
         }
@@ -334,13 +330,13 @@ impl<U: Suite> Connection<U> {
         ensures cause { result ≡ Err Fault.Failed → self.old.failed ≡ true }
         ensures memory { result ≡ Err Fault.OutOfMemory → self.new.failed ≡ true }
     {
-        if self.failed {
+        if self.is_failed() {
             return Err(Fault::Failed);
         }
         match core_timeout(&mut self.core, alloc, now) {
             Ok(()) => Ok(()),
             Err(_) => {
-                self.failed = true;
+                self.fail();
                 Err(Fault::OutOfMemory)
             }
         }
@@ -373,13 +369,13 @@ impl<U: Suite> Connection<U> {
         ensures cut_back { OnErr result (buf.new.items ≡ []) }
     {
         let _most = max_datagrams;
-        if self.failed {
+        if self.is_failed() {
             return Err(Fault::Failed);
         }
         match core_send(&mut self.core, alloc, now, buf) {
             Ok(sent) => Ok(sent),
             Err(_) => {
-                self.failed = true;
+                self.fail();
                 buf.clear();
                 Err(Fault::OutOfMemory)
             }
@@ -431,16 +427,12 @@ impl<U: Suite> Connection<U> {
         self.core.poll_timeout()
     }
 
-    /// A connection of its parts: this core, and whether a call met want of memory.
-    pub fn from_parts(core: Core<U>, failed: bool) -> Connection<U>
+    /// A connection of this core, which has failed where the core's streams are so marked.
+    pub fn from_core(core: Core<U>) -> Connection<U>
         ensures core { result.core ≡ core }
-        ensures mark { result.failed ≡ failed }
+        ensures mark { result.failed ≡ core.lower.streams.failed }
     {
-        Connection {
-            core,
-            failed,
-            steps: 0,
-        }
+        Connection { core, steps: 0 }
     }
 
     /// One input of `drive`: the call, and the reports after it.
@@ -454,13 +446,13 @@ impl<U: Suite> Connection<U> {
         ensures memory { result ≡ Err Fault.OutOfMemory → self.new.failed ≡ true }
         ensures count { self.new.steps ≡ self.old.steps }
     {
-        if self.failed {
+        if self.is_failed() {
             return Err(Fault::Failed);
         }
         match core_step(&mut self.core, alloc, at, input) {
             Ok(step) => Ok(step),
             Err(_) => {
-                self.failed = true;
+                self.fail();
                 Err(Fault::OutOfMemory)
             }
         }
@@ -488,20 +480,18 @@ impl<U: Suite> Connection<U> {
         self.core.setup.fixed.side
     }
 
-    /// Whether a call met want of memory: each call that can want memory then answers `Failed`.
+    /// Whether a call met want of memory, be it one of a view: each call that can want memory then answers `Failed`.
     pub fn is_failed(&self) -> bool
         ensures { result ≡ self.now.failed }
     {
-        self.failed
+        self.core.lower.streams.failed
     }
 
     /// Marks the connection as failed.
     pub(crate) fn fail(&mut self)
-        ensures mark { self.new.failed ≡ true }
-        ensures core { self.new.core ≡ self.old.core }
-        ensures count { self.new.steps ≡ self.old.steps }
+        ensures { self.new ≡ with_streams self.old (failed self.old.core.lower.streams) }
     {
-        self.failed = true;
+        self.core.lower.streams.failed = true;
     }
 
     /// How many steps `drive` gave of this connection, as far as the type counts.
@@ -522,7 +512,7 @@ impl<U: Suite> Connection<U> {
     }
 }
 
-#[tactic(auto, unfolding(qc_state::specs::Moves::state_move, qc_state::specs::Moves::numbers_move, qc_state::specs::Moves::keys_move, qc_state::specs::Moves::life_move, qc_state::specs::Moves::paths_move, qc_state::specs::Moves::timers_move, qc_state::specs::Moves::waiting_move, qc_state::specs::Moves::setup_move, qc_state::specs::Moves::lower_move, qc_state::specs::Lower::streams_stepped, qc_streams::specs::Waits::after, qc_streams::specs::Waits::after_step))]
+#[tactic(auto, unfolding(qc_state::specs::Moves::state_move, qc_state::specs::Moves::numbers_move, qc_state::specs::Moves::keys_move, qc_state::specs::Moves::life_move, qc_state::specs::Moves::paths_move, qc_state::specs::Moves::timers_move, qc_state::specs::Moves::waiting_move, qc_state::specs::Moves::setup_move, qc_state::specs::Moves::lower_move, qc_state::specs::Lower::streams_stepped, qc_streams::specs::Waits::after, qc_streams::specs::Waits::after_step), using(crate::proofs::MarkSteps::concurrent_mark, crate::proofs::MarkSteps::send_window_mark, crate::proofs::MarkSteps::receive_window_mark))]
 impl<U: Suite> Connection<U> {
     /// Sets how many streams of a direction the peer may have open at a time (RFC 9000, 4.6): more may be opened at once, fewer as streams
     /// end. It takes no memory, and is done of a connection that has failed too.

@@ -7,6 +7,7 @@ ghost use Rattle.qc_conn.specs.Refusal.{bad_call, bad_direction, bad_ids, refusa
 ghost use Rattle.qc_conn.specs.Seen.{KeepsCredit, counted};
 ghost use Rattle.qc_base.specs.declared.side.SpaceId.{SpaceId};
 ghost use Rattle.qc_laws.specs.AckLaws.{AckHolds, EachHoldsAck};
+ghost use Rattle.qc_laws.specs.CidLaws.{HasNewIds, TellsIssued, UsesPeers};
 ghost use Rattle.qc_laws.specs.CryptoLaws.{KeepsBytes};
 ghost use Rattle.qc_laws.specs.EndLaws.{Ends};
 ghost use Rattle.qc_conn.specs.Stored.{stored, tokens_in};
@@ -340,6 +341,11 @@ pub fn drive<U: Suite, G: TokenStore>(
     // And so are the connection ids of both ends: those steps of frames that come are the ones of the frames that were given to them, those
     // with which ids are given the inputs', and those with which frames are sealed the ones of the packets that are sealed.
     ensures identifiers { IfOk result (λ trace. FoldsIds inputs.now trace (ideal U.Random.stream connection.old.core) (ideal U.Random.stream connection.new.core)) }
+
+    // Where they were new, packets carry an id of the peer's that it gave and hasn't retired, those that are retired have lower numbers, and
+    // each id that is told was given.
+    ensures uses { HasNewIds (ideal U.Random.stream connection.old.core) → IfOk result (λ trace. UsesPeers (deeds_of trace) (ideal U.Random.stream connection.old.core) (ideal U.Random.stream connection.new.core)) }
+    ensures issues { HasNewIds (ideal U.Random.stream connection.old.core) → IfOk result (λ trace. TellsIssued inputs.now trace) }
 
     // An ACK of 1-RTT packets is held back for 25 ms at most, or until an ACK is sealed.
     ensures held { AckHolds (ideal U.Random.stream connection.old.core) → IfOk result (λ trace. EachHoldsAck ⟦<U as Means>⟧.meaning 0 (ideal U.Random.stream connection.old.core) inputs.now trace (ideal U.Random.stream connection.new.core)) }

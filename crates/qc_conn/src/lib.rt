@@ -5,12 +5,15 @@ mod connection;
 mod directions;
 mod driving;
 mod laws;
+mod parts;
 mod steps;
 pub mod text;
+mod views;
 
 pub use connection::{Connection, FirstError};
 pub use driving::{BadWhy, DriveError, DriveKind, drive};
 pub use laws::text_tells_run;
+pub use parts::Parts;
 // What the calls name, with all that stands in it.
 pub use bytes::{Bytes, BytesMut};
 pub use qc_base::{
@@ -32,5 +35,8 @@ pub use qc_state::{
     EndpointEvents, Event, Events, IdList, Input, Layer, Means, Quiet, Refusal, Step, Suite, Trace,
     Transmit, Verdict, Word, negotiate_max_idle_timeout,
 };
-pub use qc_streams::StreamEvent;
+pub use qc_streams::{
+    Chunk, Chunks, ClosedStream, FinishError, ReadError, ReadableError, RecvStream, SendStream,
+    ShouldTransmit, StreamEvent, Streams, WriteError, Written,
+};
 pub use rand_core::Rng;

@@ -19,7 +19,7 @@ const REPLY: [u8; 55] =
 
 /// A Handshake packet with the server's end, whose parameters let the client send 100000 bytes, 50000 on each stream, and open four of
 /// each direction.
-const END_FOR_STREAMS: [u8; 99] =
+pub(crate) const END_FOR_STREAMS: [u8; 99] =
     *b"\xe3\x00\x00\x00\x01\x08\x01\x01\x01\x01\x01\x01\x01\x01\x08\x04\x04\x04\x04\x04\x04\x04\x04\x40\x4a\x00\x06\x00\x36\x03\x00\x32\x01\x00\x08\x02\x02\x02\x02\x02\x02\x02\x02\x04\x04\x80\x01\x87\xa1\x05\x04\x80\x00\xc3\x50\x06\x04\x80\x00\xc3\x50\x07\x04\x81\x01\xc3\x50\x08\x01\x04\x09\x01\x04\x0f\x08\x04\x04\x04\x04\x05\x05\x04\x04\xe2\xc4\xa6\x88\x6a\x4d\x2f\x10\xf2\xd4\xb6\x98\x7a\x5c\x3e\x20";
 
 /// The same, with parameters that take DATAGRAM frames of 100 bytes, and let no stream be opened.
@@ -27,11 +27,11 @@ const END_TAKES_100: [u8; 73] =
     *b"\xe3\x00\x00\x00\x01\x08\x01\x01\x01\x01\x01\x01\x01\x01\x08\x04\x04\x04\x04\x04\x04\x04\x04\x40\x30\x00\x06\x00\x1c\x03\x00\x18\x01\x00\x08\x02\x02\x02\x02\x02\x02\x02\x02\x0f\x08\x04\x04\x05\x05\x04\x04\x04\x04\x20\x02\x40\x64\x77\xee\x65\xdc\x53\xcb\x42\xb8\x2f\xa6\x1d\x94\x0b\x82\xf9\x70";
 
 /// A 1-RTT packet with `hello` on stream 3, the server's first unidirectional one, from offset 0.
-const STREAM_3: [u8; 34] =
+pub(crate) const STREAM_3: [u8; 34] =
     *b"\x48\x01\x01\x01\x01\x01\x01\x01\x01\x65\x0a\x03\x05\x68\x65\x6e\x6d\x6f\x94\x28\xbc\x50\xe4\x7a\x0d\xa0\x34\xc8\x5c\xf0\x84\x18\xac\x40";
 
 /// One with `world` on stream 3 from offset 10, and its end; and `bi` on stream 1, the server's first bidirectional one.
-const STREAM_3_END: [u8; 40] =
+pub(crate) const STREAM_3_END: [u8; 40] =
     *b"\x45\x01\x01\x01\x01\x01\x01\x01\x01\x76\x0f\x03\x0a\x05\x77\x6d\x73\x6c\x64\x0a\x01\x02\x62\x69\x36\x6c\xa2\xd8\x0e\x46\x7b\xb0\xe6\x1c\x52\x88\xbe\xf4\x2a\x60";
 
 /// One with a datagram of the bytes ab and cd, and one of 1, 2 and 3.
@@ -40,7 +40,7 @@ const TWO_DATAGRAMS: [u8; 34] =
 
 /// What a call answered, in numbers.
 #[derive(Clone, Copy, Debug, PartialEq, Eq)]
-enum Told {
+pub(crate) enum Told {
     /// It is done.
     Done,
     /// It gave nothing.
@@ -62,7 +62,7 @@ enum Told {
 }
 
 /// The number that bytes spell, the first one its highest.
-fn number_of(bytes: &[u8]) -> u64 {
+pub(crate) fn number_of(bytes: &[u8]) -> u64 {
     let mut number: u64 = 0;
     for byte in bytes {
         number = number.saturating_mul(256).saturating_add(u64::from(*byte));
@@ -107,12 +107,12 @@ fn now() -> Instant {
 }
 
 /// The client's first stream of a direction: 0 or 2.
-fn own(dir: Dir) -> StreamId {
+pub(crate) fn own(dir: Dir) -> StreamId {
     StreamId::new(Side::Client, dir, 0)
 }
 
 /// The server's first stream of a direction: 1 or 3.
-fn peers(dir: Dir) -> StreamId {
+pub(crate) fn peers(dir: Dir) -> StreamId {
     StreamId::new(Side::Server, dir, 0)
 }
 
@@ -181,7 +181,12 @@ fn recv(alloc: Global, client: &mut Connection<Toy>) -> Option<Told> {
 }
 
 /// A datagram of the server's comes at this time.
-fn hear(alloc: Global, client: &mut Connection<Toy>, nanos: u64, bytes: &[u8]) -> Option<Told> {
+pub(crate) fn hear(
+    alloc: Global,
+    client: &mut Connection<Toy>,
+    nanos: u64,
+    bytes: &[u8],
+) -> Option<Told> {
     let bytes = Vec::from_slice(alloc, bytes).ok()?;
     call(alloc, client, &datagram(nanos, bytes))
 }
@@ -202,7 +207,7 @@ fn establish(alloc: Global, client: &mut Connection<Toy>, end: &[u8]) -> Option<
 }
 
 /// An established client to which the server sent this end.
-fn established(alloc: Global, end: &[u8]) -> Option<Box<Connection<Toy>>> {
+pub(crate) fn established(alloc: Global, end: &[u8]) -> Option<Box<Connection<Toy>>> {
     let mut client = fresh_client(alloc)?;
     let _last = establish(alloc, &mut client, end)?;
     Some(client)
@@ -216,7 +221,11 @@ fn established_with(alloc: Global, window: u32) -> Option<Box<Connection<Toy>>> 
 }
 
 /// Whether the next transmit seals this packet.
-fn seals(alloc: Global, client: &mut Connection<Toy>, packet: &str) -> Result<bool, Fail> {
+pub(crate) fn seals(
+    alloc: Global,
+    client: &mut Connection<Toy>,
+    packet: &str,
+) -> Result<bool, Fail> {
     let inputs = [transmit(4)];
     let missing = missing(alloc, client, &inputs, &[packet])?;
     Ok(missing.is_none())

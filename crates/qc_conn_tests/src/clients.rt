@@ -140,7 +140,8 @@ fn core(alloc: Global) -> Option<Core<Toy>> {
 pub(crate) fn client_at(alloc: Global, number: u64, failed: bool) -> Option<Box<Connection<Toy>>> {
     let mut core = core(alloc)?;
     core.numbers.spaces.initial.next = number;
-    Box::new(alloc, Connection::from_parts(core, failed)).ok()
+    core.lower.streams.failed = failed;
+    Box::new(alloc, Connection::from_core(core)).ok()
 }
 
 /// How many bytes a transmit at this time seals; None where it seals nothing.

@@ -18,3 +18,5 @@ mod timeout_tests;
 mod timer_tests;
 #[cfg(test)]
 mod token_tests;
+#[cfg(test)]
+mod view_tests;

@@ -52,7 +52,7 @@ use Rattle.qc_laws.proofs.StreamsSealed.{frames_append}
 
 -- ---- deeds, one list behind another
 
-given_append : (ds es : List Did) → given_to_ids (ds ++ es) ≡ given_to_ids ds ++ given_to_ids es
+pub given_append : (ds es : List Did) → given_to_ids (ds ++ es) ≡ given_to_ids ds ++ given_to_ids es
 given_append [] es = refl
 given_append (did.Gave layer.Ids body ∷ ds) es = ap (λ (bodies : List (List ℕ)). body ∷ bodies) (given_append ds es)
 given_append (did.Gave layer.Session body ∷ ds) es = given_append ds es
@@ -208,7 +208,7 @@ module _ {t : Types} where
       begun_by false = let v : View t = if opens then record s { waiting = probe_spent s.waiting id } else s in again_apart (wants_sending v id) (oldest_in v id)
 
   -- which of their steps a move is
-  abbrev steps_by : Move t → View t → List Step
+  abbrev pub steps_by : Move t → View t → List Step
   steps_by (Begin id opens) s = begun_ids id opens s
   steps_by (Ack id n r) s = lost_ids r.lost
   steps_by (Fire r) s = fired_ids r.fired
@@ -222,7 +222,7 @@ module _ {t : Types} where
   steps_by (Learn p) s = learned_cids p
   steps_by _ s = []
 
-  moved_ids : (m : Meaning t) (x : Move t) (s : View t) → IsKnownMove m x s → (lower_move x s).ids ≡ after (steps_by x s) s.lower.ids
+  pub moved_ids : (m : Meaning t) (x : Move t) (s : View t) → IsKnownMove m x s → (lower_move x s).ids ≡ after (steps_by x s) s.lower.ids
   unfolding lower_move ids_stepped streams_stepped datagrams_stepped bytes_came session_read session_wrote flight_dropped packets_settled timer_fired frame_handed streams_closed limits_learned after
   moved_ids m (Take id fs) s k = absurd k
   moved_ids m (Seal time form n size fs) s k = absurd k

@@ -18,7 +18,6 @@ use Rattle.qc_ids.specs.LocalCids.{may_retire}
 use Rattle.qc_ids.specs.QueueLaws.{is_taken, queue_after}
 use Rattle.qc_ids.specs.declared.cid_queue.KeptCid.{KeptCid}
 use Rattle.qc_params.specs.declared.params.PreferredAddress.{PreferredAddress}
-use Rattle.qc_params.specs.declared.params.TransportParameters.{TransportParameters}
 use Rattle.qc_recovery.specs.declared.calls.Fired.{Fired}
 use Rattle.qc_recovery.specs.declared.calls.Fired.TheVariants as fired
 use Rattle.qc_state.specs.declared.deeds.Verdict.{Verdict}
@@ -51,14 +50,14 @@ use Rattle.qc_laws.proofs.KnownMoves.{IsKnownMove, known_input}
 -- ---- steps that leave the peer's ids
 
 -- the steps with which frames are sealed or lost, and those of this end's ids
-abbrev IsCalm : cids.Step → Type 0
+abbrev pub IsCalm : cids.Step → Type 0
 IsCalm (cids.NewCame new) = ⊥
 IsCalm cids.Switched = ⊥
 IsCalm (cids.Renamed id) = ⊥
 IsCalm (cids.Preferred new) = ⊥
 IsCalm _ = Unit {0}
 
-abbrev AreCalm : List cids.Step → Type 0
+abbrev pub AreCalm : List cids.Step → Type 0
 AreCalm [] = Unit {0}
 AreCalm (x ∷ xs) = IsCalm x × AreCalm xs
 
@@ -75,7 +74,7 @@ calm_step (cids.Preferred new) s h = absurd h
 calm_step (cids.RetireCame limit n) s h = retired_by (may_retire n s.local) s _ refl
 calm_step _ s h = refl
 
-calm_steps : (xs : List cids.Step) (s : ConnectionIds) → AreCalm xs → (after xs s).remote ≡ s.remote
+pub calm_steps : (xs : List cids.Step) (s : ConnectionIds) → AreCalm xs → (after xs s).remote ≡ s.remote
 unfolding after
 calm_steps [] s h = refl
 calm_steps (x ∷ xs) s h = calm_steps xs (after_step x s) h.1 ∙ calm_step x s h.0
@@ -89,7 +88,7 @@ sealed_one (frames.NewConnectionId new) = (tt, tt)
 sealed_one (frames.RetireConnectionId n) = (tt, tt)
 sealed_one _ = tt
 
-sealed_calm : (fs : List FrameValue) → AreCalm (sealed_cids fs)
+pub sealed_calm : (fs : List FrameValue) → AreCalm (sealed_cids fs)
 unfolding sealed_cids
 sealed_calm [] = tt
 sealed_calm (f ∷ fs) = calm_append (sealed_cid f) (sealed_cids fs) (sealed_one f) (sealed_calm fs)
@@ -104,12 +103,12 @@ unfolding lost_cids
 lost_calm [] = tt
 lost_calm (f ∷ fs) = calm_append (lost_cid f) (lost_cids fs) (lost_one f) (lost_calm fs)
 
-packets_calm : (es : List Entry) → AreCalm (lost_ids es)
+pub packets_calm : (es : List Entry) → AreCalm (lost_ids es)
 unfolding lost_ids
 packets_calm [] = tt
 packets_calm (e ∷ es) = calm_append (lost_cids e.1.frames) (lost_ids es) (lost_calm e.1.frames) (packets_calm es)
 
-fired_calm : (f : Fired) → AreCalm (fired_ids f)
+pub fired_calm : (f : Fired) → AreCalm (fired_ids f)
 fired_calm (fired.Lost id lost) = packets_calm lost
 fired_calm (fired.Probe id count) = tt
 fired_calm fired.Nothing = tt
@@ -192,7 +191,7 @@ module _ {t : Types} (m : Meaning t) where
   ids_next u v w g h = record { chosen = λ cid e. h.chosen cid (g.chosen cid e); carried = λ k. h.carried (g.carried k) }
 
   -- a packet is begun
-  begun_calm : (id : SpaceId) (opens : Bool) (s : View t) → AreCalm (begun_ids id opens s)
+  pub begun_calm : (id : SpaceId) (opens : Bool) (s : View t) → AreCalm (begun_ids id opens s)
   unfolding begun_ids probe_ids
   begun_calm id opens s = begun_by ((space_of s.waiting.spaces id).probes == 0)
     where

@@ -142,7 +142,7 @@ module _ {t : Types} where
   outside_known m at_time _ s h = tt
 
   -- of those of the other timers
-  expiry_known : (m : Meaning t) (x : Move t) (s : View t) → IsExpiry x → IsKnownMove m x s
+  pub expiry_known : (m : Meaning t) (x : Move t) (s : View t) → IsExpiry x → IsKnownMove m x s
   expiry_known m (Clock time) s h = absurd h
   expiry_known m (Take id fs) s h = absurd h
   expiry_known m (Seal time form n size fs) s h = absurd h
@@ -164,7 +164,7 @@ module _ {t : Types} where
   expiry_known m _ s h = tt
 
   -- and of those of a transmit
-  sending_known : (m : Meaning t) (x : Move t) (s : View t) → IsSending x → IsKnownMove m x s
+  pub sending_known : (m : Meaning t) (x : Move t) (s : View t) → IsSending x → IsKnownMove m x s
   sending_known m (Clock time) s h = absurd h
   sending_known m (Take id fs) s h = absurd h
   sending_known m (Seal time form n size fs) s h = absurd h

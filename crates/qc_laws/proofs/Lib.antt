@@ -2,6 +2,14 @@ pub mod Addresses
 pub mod AcksAccepted
 pub mod AcksBefore
 pub mod AcksKnown
+pub mod CidFrames
+pub mod CidKept
+pub mod CidMoves
+pub mod CidPackets
+pub mod CidQueues
+pub mod CidRuns
+pub mod CidUses
+pub mod CidWalk
 pub mod Clocks
 pub mod DatagramLaws
 pub mod EventsTold

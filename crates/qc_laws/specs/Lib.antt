@@ -1,4 +1,5 @@
 pub mod AckLaws
+pub mod CidLaws
 pub mod CryptoLaws
 pub mod DatagramLaws
 pub mod EndLaws

@@ -7,6 +7,7 @@ ghost use Rattle.qc_header.specs.HeaderReading.{piece_at};
 ghost use Rattle.qc_header.specs.Piece.{Piece};
 ghost use Rattle.qc_path.specs.Arrived.{Remembers, Window, is_among};
 ghost use Rattle.qc_laws.specs.AckLaws.{AckHolds, EachHoldsAck};
+ghost use Rattle.qc_laws.specs.CidLaws.{HasNewIds, TellsIssued, UsesPeers};
 ghost use Rattle.qc_laws.specs.CryptoLaws.{KeepsBytes};
 ghost use Rattle.qc_laws.specs.DatagramLaws.{DatagramHolds};
 ghost use Rattle.qc_laws.specs.EndLaws.{Ends};
@@ -85,6 +86,20 @@ pub fn ids_hold<U: Suite>()
 /// over their steps holds of a run (RFC 9000, 5.1).
 pub fn folds_ids<U: Suite>()
     ensures { (s last : View ⟦<U as Means>⟧.types) (k : ℕ) (is : List Input) (xs : List Step) → Run ⟦<U as Means>⟧.meaning k s is xs last → FoldsIds is xs s last }
+{}
+
+/// A law, which runs no code. Over a run from new ids on, packets to the peer carry an id of its that it chose in its handshake, named with the
+/// address that it prefers, or gave in a NEW_CONNECTION_ID; the first id only until it chose one. While the connection is open, no
+/// NEW_CONNECTION_ID that came has retired the id in use; and each RETIRE_CONNECTION_ID that is sealed names a number below that of the id in use,
+/// so never that one (RFC 9000, 5.1.1, 5.1.2, 7.2 and 19.16).
+pub fn known_ids_are_used<U: Suite>()
+    ensures { (s last : View ⟦<U as Means>⟧.types) (k : ℕ) (is : List Input) (xs : List Step) → Run ⟦<U as Means>⟧.meaning k s is xs last → HasNewIds s → UsesPeers (deeds_of xs) s last }
+{}
+
+/// A law, which runs no code. Over a run from new ids on, each NEW_CONNECTION_ID in a packet that is sealed tells an id of this end that an input
+/// gave before, with its number and its reset token (RFC 9000, 19.15).
+pub fn issued_ids_are_told<U: Suite>()
+    ensures { (s last : View ⟦<U as Means>⟧.types) (k : ℕ) (is : List Input) (xs : List Step) → Run ⟦<U as Means>⟧.meaning k s is xs last → HasNewIds s → TellsIssued is xs }
 {}
 
 /// A law, which runs no code. Over a run no key seals more packets than it may (RFC 9001, 6.6): each packet that is sealed under

@@ -1,6 +1,8 @@
 use Rattle.std.specs.Prelude.{List, Result, Ok, Err, IfErr, IfOk, OnOk}
 use Rattle.qc_laws.proofs.AckHolds.{run_acks_hold, run_each_holds}
 use Rattle.qc_laws.proofs.AcksAccepted.{none_acks_known, ran_acks_known, run_acks_known}
+use Rattle.qc_laws.proofs.CidRuns.{run_tells_issued}
+use Rattle.qc_laws.proofs.CidUses.{run_uses}
 use Rattle.qc_laws.proofs.CryptoKept.{run_keeps_bytes}
 use Rattle.qc_laws.proofs.EndsHold.{run_ends}
 use Rattle.qc_laws.proofs.EventsTold.{none_tells_done, none_tells_once, ran_tells_done, ran_tells_once, run_stays_done, run_tells_done, run_tells_once}
@@ -182,6 +184,12 @@ returns-clause-sent g c = λ new. of_trace _ _ _ _ c.drive_all.result _ c.drive_
 
 pub returns-clause-identifiers : goal.returns-clause-identifiers
 returns-clause-identifiers g c = of_trace _ _ _ _ c.drive_all.result _ c.drive_all.ensures.run (λ trace run. run_folds_ids _ 0 _ _ trace _ run)
+
+pub returns-clause-uses : goal.returns-clause-uses
+returns-clause-uses g c = λ new. of_trace _ _ _ _ c.drive_all.result _ c.drive_all.ensures.run (λ trace run. run_uses _ 0 _ _ trace _ run new)
+
+pub returns-clause-issues : goal.returns-clause-issues
+returns-clause-issues g c = λ new. of_trace _ _ _ _ c.drive_all.result _ c.drive_all.ensures.run (λ trace run. run_tells_issued _ 0 _ _ trace _ run new)
 
 -- the empty trace is a run over no inputs
 pub returns-then-is_failed-clause-part : goal.returns-then-is_failed-clause-part

@@ -1,6 +1,9 @@
 use Rattle.qc_conn.proofs.NewEnds.{first_ends}
+use Rattle.qc_conn.proofs.Marks.{new_mark}
 use Rattle.qc_conn.proofs.NewLaws.{first_acks, first_kept, first_new, first_streams, first_timer, first_unposted, first_used}
+use Rattle.qc_conn.proofs.NewIds.{first_new_ids}
 use Rattle.qc_conn.proofs.RunsPlain.{first_plain, first_told}
+use Rattle.qc_state.specs.View.{ideal}
 use Rattle.qc_conn.proofs.connection.Connection.new_client.Goals as goal
 
 -- its address is that of the setup
@@ -42,3 +45,11 @@ returns-clause-datagrams g c = first_unposted g.U.Random.Rng.stream _ _ _ _ c.ar
 -- packets carry the one id of the peer that is known
 pub returns-clause-ids : goal.returns-clause-ids
 returns-clause-ids g c = first_used g.U.Random.Rng.stream _ _ _ _ c.args.setup.remote c.args.setup.first_cid _ _ _ c.args.now c.in_ok-core.core c.in_ok-core.ensures.made
+
+-- it hasn't failed
+pub returns-clause-alive : goal.returns-clause-alive
+returns-clause-alive g c = new_mark (ideal g.U.Random.Rng.stream c.in_ok-core.core) (first_new g.U.Random.Rng.stream _ _ _ _ c.args.setup.remote c.args.setup.first_cid _ _ _ c.args.now c.in_ok-core.core c.in_ok-core.ensures.made)
+
+-- its ids are new
+pub returns-clause-new_ids : goal.returns-clause-new_ids
+returns-clause-new_ids g c = first_new_ids g.U.Random.Rng.stream _ _ _ _ c.args.setup.remote c.args.setup.first_cid _ _ _ c.args.now c.in_ok-core.core c.in_ok-core.ensures.made

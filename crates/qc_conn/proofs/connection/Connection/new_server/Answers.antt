@@ -1,6 +1,9 @@
 use Rattle.qc_conn.proofs.NewEnds.{server_ends}
+use Rattle.qc_conn.proofs.Marks.{new_mark}
 use Rattle.qc_conn.proofs.NewLaws.{server_acks, server_kept, server_new, server_streams, server_timer, server_unposted, server_used}
+use Rattle.qc_conn.proofs.NewIds.{server_new_ids}
 use Rattle.qc_conn.proofs.RunsPlain.{server_plain, server_told}
+use Rattle.qc_state.specs.View.{ideal}
 use Rattle.qc_conn.proofs.connection.Connection.new_server.Goals as goal
 
 -- its address is that of the setup
@@ -42,3 +45,11 @@ returns-clause-datagrams g c = server_unposted g.U.Random.Rng.stream _ _ _ _ c.a
 -- packets carry the one id of the peer that is known
 pub returns-clause-ids : goal.returns-clause-ids
 returns-clause-ids g c = server_used g.U.Random.Rng.stream _ _ _ _ c.args.setup.remote c.args.setup.remote_cid c.args.setup.validated _ _ c.args.now c.in_ok-core.core c.in_ok-core.ensures
+
+-- it hasn't failed
+pub returns-clause-alive : goal.returns-clause-alive
+returns-clause-alive g c = new_mark (ideal g.U.Random.Rng.stream c.in_ok-core.core) (server_new g.U.Random.Rng.stream _ _ _ _ c.args.setup.remote c.args.setup.remote_cid c.args.setup.validated _ _ c.args.now c.in_ok-core.core c.in_ok-core.ensures)
+
+-- its ids are new
+pub returns-clause-new_ids : goal.returns-clause-new_ids
+returns-clause-new_ids g c = server_new_ids g.U.Random.Rng.stream _ _ _ _ c.args.setup.remote c.args.setup.remote_cid c.args.setup.validated _ _ c.args.now c.in_ok-core.core c.in_ok-core.ensures
