@@ -161,6 +161,7 @@ fn word(event: &Event) -> &'static str {
         Event::HandshakeDataReady => "knows what the handshake settles",
         Event::Connected => "is connected",
         Event::DatagramReceived => "has got a datagram",
+        Event::DatagramsUnblocked => "can send datagrams again",
         Event::Stream(_) => "has news of a stream",
         Event::ConnectionLost { .. } => "has lost the connection",
     }

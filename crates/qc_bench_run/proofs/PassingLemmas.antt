@@ -24,9 +24,10 @@ use Rattle.qc_rings.specs.Ring.{Ring, which_named}
 use Rattle.qc_rings.specs.declared.which.Which.TheVariants.{Current}
 use Rattle.qc_packet.proofs.Arrivals.{arrives, number_arrives, opened_as, is_taken}
 use Rattle.qc_packet.specs.declared.builder.PacketBuilder.{PacketBuilder}
-use Rattle.qc_packet.specs.Building.{IsReady, IsOf, builder_for, header_len, min_size_of}
+use Rattle.qc_packet.specs.Building.{IsReady, IsOf, builder_for, header_len, max_size_of, min_size_of, padded_builder}
 use Rattle.qc_packet.specs.PacketSpelling.{with_flip, sealed_packet, packet_spelling}
-use Rattle.qc_packet.proofs.Full.{full_builder, full_builder_is, full_ready, full_is_of, room_enough}
+use Rattle.qc_packet.proofs.Behind.{most_is}
+use Rattle.qc_packet.proofs.Full.{begun_sound, full_ready, full_is_of, padded_is, room_enough}
 use Rattle.qc_bench_run.specs.Passing.{passing_header, passing_payload, number_in}
 
 -- its header has 13 bytes
@@ -37,15 +38,18 @@ header_size number = simp length-append (omega (arith, length-number_bytes (U32 
 -- the builder of the packet
 pub builder_is : (number size start : ℕ) (h : Header) (begun b : PacketBuilder) → h ≡ passing_header number → start ≡ 0
     → begun ≡ builder_for Data number h start 16383 0 true → b ≡ record begun { min_size = max begun.min_size (plus begun.datagram_start (size - 16)) }
-    → b ≡ full_builder Data number (passing_header number) 16383 true size
+    → b ≡ padded_builder Data number (passing_header number) 0 16383 true size
 builder_is number size start h begun b is_h is_start is_begun is_b =
-    full_builder_is Data number (passing_header number) start 16383 true size begun b is_start (is_begun ∙ ap (λ (x : Header). builder_for Data number x start 16383 0 true) is_h) is_b
+    padded_is Data number (passing_header number) 0 16383 true size begun b
+    (is_begun ∙ ap (λ (x : Header). builder_for Data number x start 16383 0 true) is_h ∙ ap (λ (n : ℕ). builder_for Data number (passing_header number) n 16383 0 true) is_start) is_b
 
-pub builder_ready : (number size len : ℕ) (b : PacketBuilder) → 34 ≤ size → size ≤ 16383 → b ≡ full_builder Data number (passing_header number) 16383 true size → len ≡ 14 → IsReady b len
+pub builder_ready : (number size len : ℕ) (b : PacketBuilder) → 34 ≤ size → size ≤ 16383 → b ≡ padded_builder Data number (passing_header number) 0 16383 true size → len ≡ 14 → IsReady b len
 builder_ready number size len b least most is_b is_len =
     let begins = header_size number in
+    let all : max_size_of 0 (passing_header number) 16383 + 16 ≡ 16383 = most_is (passing_header number) 16383 (omega arith) (omega arith) in
+    let enough : min_size_of 0 (passing_header number) + 16 ≤ 16383 = room_enough (passing_header number) 16383 (omega arith) in
     subst (λ (x : PacketBuilder). IsReady x len) (sym is_b)
-    (full_ready Data number (passing_header number) 16383 true size 1 len refl (omega arith) (room_enough (passing_header number) 16383 (omega arith)) (omega arith) (omega arith) (omega arith) (omega arith))
+    (full_ready Data number (passing_header number) 0 16383 true size 1 len (begun_sound Data number (passing_header number) 0 16383 0 true (omega arith) refl) (omega arith) (omega arith) (omega arith) (omega arith))
 
 -- its payload ends where the tag begins
 passing_end : (number size : ℕ) → 34 ≤ size → size ≤ 16383 → max (min_size_of 0 (passing_header number)) (plus 0 (size - 16)) ≡ size - 16
@@ -68,7 +72,7 @@ begun_size number pushed is =
 
 -- and what comes of it
 pub passing_spelled : (mask : List ℕ → List ℕ) (seal : Sealing) (number size : ℕ) (b : PacketBuilder) (pushed out : List ℕ) → 34 ≤ size → size ≤ 16383
-    → b ≡ full_builder Data number (passing_header number) 16383 true size → pushed ≡ header_spelling (passing_header number) 0 ++ 1 ∷ []
+    → b ≡ padded_builder Data number (passing_header number) 0 16383 true size → pushed ≡ header_spelling (passing_header number) 0 ++ 1 ∷ []
     → ((before : List ℕ) (flip : Bool) (h : Header) (plain : List ℕ) → b.start ≡ length before → IsOf b h → pushed ≡ before ++ (with_flip flip (header_spelling h 0) ++ plain)
     → out ≡ before ++ sealed_packet mask seal flip h b.exact_number (plain ++ replicate (b.min_size - length pushed) 0))
     → out ≡ packet_spelling mask seal (passing_header number) number (passing_payload size)
@@ -76,7 +80,7 @@ passing_spelled mask seal number size b pushed out least most is_b is_pushed pac
     let begins = header_size number in
     let min : b.min_size ≡ size - 16 = ap (λ (x : PacketBuilder). x.min_size) is_b ∙ passing_end number size least most in
     let pad : b.min_size - length pushed ≡ size - 30 = omega (arith, begun_size number pushed is_pushed) in
-    let is_of = subst (λ (x : PacketBuilder). IsOf x (passing_header number)) (sym is_b) (full_is_of Data number (passing_header number) 16383 true size refl) in
+    let is_of = subst (λ (x : PacketBuilder). IsOf x (passing_header number)) (sym is_b) (full_is_of Data number (passing_header number) 0 16383 true size refl) in
     packet [] false (passing_header number) (1 ∷ []) (ap (λ (x : PacketBuilder). x.start) is_b) is_of is_pushed
     ∙ ap (λ (n : ℕ). sealed_packet mask seal false (passing_header number) n (1 ∷ replicate (b.min_size - length pushed) 0)) (ap (λ (x : PacketBuilder). x.exact_number) is_b)
     ∙ ap (λ (n : ℕ). sealed_packet mask seal false (passing_header number) number (1 ∷ replicate n 0)) pad

@@ -30,8 +30,8 @@ module _ {t : Types} where
   handed_clock m (Datagram now remote ecn first_decode remaining) s s' may is = event_clock m (record { time = now; remote = remote; mark = ecn }) first_decode (rest_of remaining) s s' is
 
   -- a transmit
-  pub sent_clock : (m : Meaning t) (time : ℕ) (s s' : View t) (sent : Option Transmit) (buffer : List ℕ) → Sends m time s s' sent buffer → s'.timers.greatest ≡ max s.timers.greatest time
-  sent_clock m time s s' sent buffer h = transmit_clock m time s (at s' h.deeds) sent buffer h.transmits
+  pub sent_clock : (m : Meaning t) (time asked : ℕ) (s s' : View t) (sent : Option Transmit) (buffer : List ℕ) → Sends m time asked s s' sent buffer → s'.timers.greatest ≡ max s.timers.greatest time
+  sent_clock m time asked s s' sent buffer h = transmit_clock m time asked s (at s' h.deeds) sent buffer h.transmits
 
   -- a close is told the time first
   pub close_leads : (s mid s' : View t) (time code : ℕ) (reason : List ℕ) → mid ≡ state_move (Clock time) s → s' ≡ (close_after time code reason (at mid [])).state → s' ≡ (close_after time code reason (began s time)).state

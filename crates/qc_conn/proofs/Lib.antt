@@ -7,6 +7,7 @@ pub mod Firsts
 mod NewEnds
 mod NewIds
 mod NewLaws
+pub mod Posting
 mod Stores
 pub mod StreamCalls
 pub mod MarkSteps

@@ -209,10 +209,10 @@ module _ {t : Types} where
       moved (Seal time form (next_number a.state.numbers (number_space form)) (packet_size a.state form fs) fs) b (refl, may.closes, may.alive, may.keyed) ∙ moved (Take (number_space form) fs) a may.takes
 
   -- a transmit
-  pub sent_mark : (m : Meaning t) (time : ℕ) (s s' : View t) (sent : Option Transmit) (buffer : List ℕ) → Sends m time s s' sent buffer → s'.lower.streams.failed ≡ s.lower.streams.failed
-  sent_mark m time s s' sent buffer h =
+  pub sent_mark : (m : Meaning t) (time asked : ℕ) (s s' : View t) (sent : Option Transmit) (buffer : List ℕ) → Sends m time asked s s' sent buffer → s'.lower.streams.failed ≡ s.lower.streams.failed
+  sent_mark m time asked s s' sent buffer h =
       ap (λ (x : At t). x.state.lower.streams.failed) h.transmits.leads
-      ∙ holds_transmit Marked here next (λ x sends b may. moved x b may) (λ at_time form fs b may. seal_mark at_time form fs b may) m time h.transmits.choice (began s time) h.transmits.may ∙ began_mark s time
+      ∙ holds_transmit Marked here next (λ x sends b may. moved x b may) (λ at_time form fs b may. seal_mark at_time form fs b may) m time asked h.transmits.choice (began s time) h.transmits.may ∙ began_mark s time
 
   -- a close
   closed_by : (time : ℕ) (close : Close) (a : At t) (b : Bool) → is_open a.state.life.state ≡ b → Marked a (if b then move_to (Shut time close) a else a)

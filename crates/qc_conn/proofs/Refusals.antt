@@ -1,5 +1,5 @@
 -- Inputs one after another, up to the first that is refused.
-use Rattle.std.proofs.Common.{◌≡◌, ℕ, ◌+◌, ◌<◌, ◌≤◌, suc, List, [], ◌∷◌, ◌++◌, length, take, drop, get_or, refl, ap, sym, ◌∙◌, subst, Bool, true, false, nat_lt, if◌then◌else◌, Option, Some, None, arith}
+use Rattle.std.proofs.Common.{◌≡◌, ℕ, ◌+◌, ◌<◌, ◌≤◌, ◌==◌, suc, List, [], ◌∷◌, ◌++◌, length, take, drop, get_or, refl, ap, sym, ◌∙◌, subst, Bool, true, false, nat_lt, if◌then◌else◌, Option, Some, None, arith}
 use Rattle.std.proofs.Math.Seq.{drop-cons}
 use Rattle.std.proofs.lemmas.Bool.Decides.{nat_tests}
 use Rattle.std.proofs.lemmas.List.{take_more}
@@ -7,6 +7,7 @@ use Rattle.std.specs.Option.{option_map}
 use Rattle.qc_cids.specs.declared.giving.GiveRefusal.{GiveRefusal}
 use Rattle.qc_cids.specs.declared.giving.GiveRefusal.TheVariants as give
 use Rattle.qc_conn.specs.declared.driving.BadWhy.{BadWhy}
+use Rattle.qc_conn.specs.declared.driving.BadWhy.TheVariants.{ZeroDatagrams}
 use Rattle.qc_conn.specs.declared.driving.DriveKind.{DriveKind}
 use Rattle.qc_conn.specs.declared.driving.DriveKind.TheVariants.{TimeBack, BadCall}
 use Rattle.qc_conn.specs.Refusal.{bad_call, bad_ids, refusal_of, place_of, RefusedAt, TakesAll}
@@ -32,6 +33,14 @@ ids_good None h = refl
 ids_good (Some (give.NotAsked asked given)) h = cc
 ids_good (Some (give.Sequence wanted given)) h = cc
 ids_good (Some (give.IdLength wanted given)) h = cc
+
+some_by : (max : ℕ) (b : Bool) → (max == 0) ≡ b → (if b then Some ZeroDatagrams else None) ≡ None → 1 ≤ max
+some_by max true e h = cc
+some_by max false e h = grind (arith, nat_tests)
+
+-- a transmit that isn't refused is allowed a datagram
+pub some_allowed : (max : ℕ) → (if max == 0 then Some ZeroDatagrams else None) ≡ None → 1 ≤ max
+some_allowed max h = some_by max (max == 0) refl h
 
 -- the input at this place, and those behind it
 left_from : (is : List Input) (n : ℕ) (i : Input) → n < length is → i ≡ get_or is n i → drop n is ≡ i ∷ drop (n + 1) is

@@ -53,6 +53,8 @@ use Rattle.qc_state.specs.declared.events.EndpointEvent.TheVariants as endpoint
 use Rattle.qc_state.specs.declared.life.ConnectionError.{ConnectionError}
 use Rattle.qc_state.specs.declared.life.Life.{Life}
 use Rattle.qc_state.specs.declared.life.State.TheVariants.{Drained}
+use Rattle.qc_state.specs.declared.deeds.Quiet.{Quiet}
+use Rattle.qc_state.specs.declared.deeds.Quiet.TheVariants.{NothingOwed, Silent, Amplification, Congestion, Pacing, Killed}
 use Rattle.qc_state.specs.declared.deeds.Verdict.{Verdict}
 use Rattle.qc_state.specs.declared.deeds.Verdict.TheVariants as verdict
 use Rattle.qc_state.specs.declared.events.EndpointEvent.{EndpointEvent}
@@ -61,20 +63,21 @@ use Rattle.qc_state.specs.declared.form.Form.TheVariants as form
 use Rattle.qc_state.specs.declared.keys.KeyGroup.{KeyGroup}
 use Rattle.qc_state.specs.declared.paths.Paths.{Paths}
 use Rattle.qc_state.specs.declared.trace.Step.{Step}
+use Rattle.qc_state.specs.declared.transmit.Batch.{Batch}
 use Rattle.qc_state.specs.declared.trace.Answer.TheVariants as answer
 use Rattle.qc_state.specs.declared.waiting.SpaceWaiting.{SpaceWaiting}
 use Rattle.qc_state.specs.declared.waiting.Waiting.{Waiting}
 use Rattle.qc_state.specs.Life.{is_closed, is_open, data_ready, datagram_heard, drained_event, identifiers_wanted, life_closed, life_drained, life_established, life_raised, reason_given, retirement_told, token_learned, token_told, notices_reported, drained_reported, lost_reported, connected_reported, ready_reported}
-use Rattle.qc_state.specs.Moves.{Move, Take, Seal, Forget, Raise, Say, Give, Enter, Fail, Accept, Fix, Hear, Ack, Fire, Arm, Pace, Release, Begin, Skip, Come, Read, Write, Ready, Learn, Establish, Tell, PeerClosesToo, PeerCloses, Owe, Shut, Hand, Insert, Switch, Retire, Issue, Outlive, Call, Post, IsTold, MayMove, told, state_move, move_to, deeds_move, life_move, paths_move, waiting_move, keys_move, Expect, Confirm, Token, Want, Finish}
+use Rattle.qc_state.specs.Moves.{Move, Take, Seal, Forget, Raise, Say, Give, Enter, Fail, Accept, Fix, Hear, Ack, Fire, Arm, Pace, Release, Begin, Skip, Come, Read, Write, Ready, Learn, Establish, Tell, PeerClosesToo, PeerCloses, Owe, Shut, Hand, Insert, Switch, Retire, Issue, Outlive, Call, Post, IsTold, MayMove, told, state_move, move_to, deeds_move, life_move, paths_move, waiting_move, keys_move, Expect, Confirm, Token, Want, Spend, Hold, Finish}
 use Rattle.qc_state.specs.Datagrams.{sent_answer, taken_answer, tells_datagram}
 use Rattle.qc_state.specs.Forms.{is_early, number_space}
 use Rattle.qc_state.specs.Ids.{active_limit}
 use Rattle.qc_state.specs.Keys.{epoch_in}
 use Rattle.qc_state.specs.Numbers.{next_number, received_number}
-use Rattle.qc_state.specs.Paths.{path_idle, path_kept, path_named, path_sent, path_received, peer_fixed, path_accepted, path_spun, new_path, only_path}
+use Rattle.qc_state.specs.Paths.{path_quiet, path_kept, path_named, path_sent, path_received, peer_fixed, path_accepted, path_spun, new_path, only_path}
 use Rattle.qc_state.specs.Receiving.{datagram_after, is_taken}
 use Rattle.qc_state.specs.Run.{time_of, began, close_after, called_all, datagram_limit, input_after, called, reported, step_after, IsAllowed, out_of, answer_of, IsStep, Run, Ran}
-use Rattle.qc_state.specs.Sending.{told_code, told_type, told_application_code, told_close, close_frame, closing_frame, IsKeptReason, Closes, padded, padding_of, packet_size, Carries, transmit_after, MayTransmit, transmit_bytes, transmit_of, transmit_with, Choice, Ending, Went, Hushed, Died, sent_out, gone_after}
+use Rattle.qc_state.specs.Sending.{told_code, told_type, told_application_code, told_close, close_frame, closing_frame, IsKeptReason, Closes, packet_size, Carries, transmit_after, MayTransmit, transmit_bytes, transmit_of, transmit_with, Choice, Ending, Went, Hushed, Died, sent_out, gone_after}
 use Rattle.qc_state.specs.Spaces.{space_of, with_space, is_space}
 use Rattle.qc_state.specs.Streams.{calls_of, closed_answer, count_written, finish_answer, is_given_to_streams, read_answer, write_answer}
 use Rattle.qc_state.specs.Timeouts.{timeout_after}
@@ -86,7 +89,7 @@ use Rattle.qc_state.specs.First.{first_view, server_view}
 use Rattle.qc_state.specs.declared.setup.Fixed.{Fixed}
 use Rattle.qc_state.specs.Allowed.{Waits, WaitAll}
 use Rattle.qc_state.specs.Offers.{packet_begun}
-use Rattle.qc_state.specs.Waiting.{again, all_again, lost_in, confirmed, all_confirmed, acked_in, packets_lost, packets_acked, probes_added, probe_spent, frames_again, fired_in, ping_asked, waiting_without, close_begun, packet_told, untold, came_in, packet_came, ack_released, bundle_next, crypto_more, crypto_written, nothing_left, space_left, without, without_all, done_asked}
+use Rattle.qc_state.specs.Waiting.{again, all_again, lost_in, confirmed, all_confirmed, acked_in, packets_lost, packets_acked, probes_added, probe_spent, frames_again, fired_in, ping_asked, waiting_without, close_begun, packet_told, came_in, packet_came, ack_released, bundle_next, crypto_more, crypto_written, nothing_left, space_left, without, without_all, done_asked}
 use Rattle.qc_state.proofs.Probed.{begun_holds, taken_space}
 use Rattle.qc_state.proofs.Expired.{IsTimed, holds_timeout}
 use Rattle.qc_state.proofs.IdsTaken.{retired_fits}
@@ -249,7 +252,7 @@ space_below w Handshake h = h.1
 space_below w Data h = h.2
 
 -- a packet was sealed with these frames
-told_below : (w : Waiting) (id : SpaceId) (fs : List FrameValue) (last : Bool) → IsBelowLimit w → IsSpaceBelowLimit (without_all (space_of w.spaces id) fs) → IsBelowLimit (packet_told (waiting_without w id fs) id last)
+told_below : (w : Waiting) (id : SpaceId) (fs : List FrameValue) (last : Bool) → IsBelowLimit w → IsSpaceBelowLimit (without_all (space_of w.spaces id) fs) → IsBelowLimit (packet_told (waiting_without w id fs) last)
 unfolding waiting_without packet_told
 told_below w Initial fs last h k = (k, h.1, h.2)
 told_below w Handshake fs last h k = (h.0, k, h.2)
@@ -263,8 +266,8 @@ bundled_below w fs next h = by_test (list_any is_ack fs)
     by_test true = h
     by_test false = h
 
-sealed_below : (w : Waiting) (id : SpaceId) (fs : List FrameValue) (last : Bool) (next : ℕ) → IsBelowLimit w → IsSpaceBelowLimit (without_all (space_of w.spaces id) fs) → IsBelowLimit (bundle_next (packet_told (waiting_without w id fs) id last) fs next)
-sealed_below w id fs last next h k = bundled_below (packet_told (waiting_without w id fs) id last) fs next (told_below w id fs last h k)
+sealed_below : (w : Waiting) (id : SpaceId) (fs : List FrameValue) (last : Bool) (next : ℕ) → IsBelowLimit w → IsSpaceBelowLimit (without_all (space_of w.spaces id) fs) → IsBelowLimit (bundle_next (packet_told (waiting_without w id fs) last) fs next)
+sealed_below w id fs last next h k = bundled_below (packet_told (waiting_without w id fs) last) fs next (told_below w id fs last h k)
 
 -- nothing waits in a space that was left
 nothing_below : (w : SpaceWaiting) → IsSpaceBelowLimit w → IsSpaceBelowLimit (nothing_left w)
@@ -276,11 +279,6 @@ set_below : (w : Waiting) (id : SpaceId) (x : SpaceWaiting) → (IsSpaceBelowLim
 set_below w Initial x keeps h = (keeps h.0, h.1, h.2)
 set_below w Handshake x keeps h = (h.0, keeps h.1, h.2)
 set_below w Data x keeps h = (h.0, h.1, keeps h.2)
-
-begun_below : (w : Waiting) (b : Bool) → IsBelowLimit w
-    → IsBelowLimit (if b then w else record w { spaces = record { initial = untold w.spaces.initial; handshake = untold w.spaces.handshake; application = untold w.spaces.application }; close_owed = true })
-begun_below w true h = h
-begun_below w false h = h
 
 -- the session's bytes come behind those that it wrote before, where the stream has room for them
 more_below : (w : SpaceWaiting) (bytes : List ℕ) → IsSpaceBelowLimit w → IsSpaceBelowLimit (record w { crypto = crypto_more w.crypto bytes })
@@ -415,6 +413,16 @@ unfolding path_spun
 spun_remote p side true bit = refl
 spun_remote p side false bit = refl
 
+-- and a transmit that sends nothing
+quiet_remote : {C : Type 0} → (p : Paths C) (q : Quiet) → (path_quiet p q).current.remote ≡ p.current.remote
+unfolding path_quiet
+quiet_remote p NothingOwed = refl
+quiet_remote p Silent = refl
+quiet_remote p Amplification = refl
+quiet_remote p Congestion = refl
+quiet_remote p Pacing = refl
+quiet_remote p Killed = refl
+
 -- what waits to be reported to the endpoint leaves nothing out
 abbrev AreNoticesPlain : Life → Type 0
 AreNoticesPlain v = All IsEndpointPlain v.notices
@@ -482,13 +490,12 @@ module _ {t : Types} where
 
   carried_plain : (closing : Bool) (time : ℕ) (s : View t) (form : Form) (room : ℕ) (fs : List FrameValue) → room ≤ 65527 → Carries closing time s form room fs →
       IsSpaceBelowLimit (space_of s.waiting.spaces (number_space form)) → ArePlain (space_of s.waiting.spaces (number_space form)) fs
-  unfolding padded
-  carried_plain closing time s form room fs small (Carries.a_close owed gs closes is) h =
+  carried_plain closing time s form room fs small (Carries.a_close owed gs n closes is) h =
       let w : SpaceWaiting = space_of s.waiting.spaces (number_space form) in
-      subst (ArePlain w) (sym is) (padded_plain w gs (padding_of s form gs) (closes_plain time s (number_space form) room gs small closes h))
-  carried_plain closing time s form room fs small (Carries.what_waits free gs wait some is) h =
+      subst (ArePlain w) (sym is) (padded_plain w gs n (closes_plain time s (number_space form) room gs small closes h))
+  carried_plain closing time s form room fs small (Carries.what_waits free gs n wait is) h =
       let w : SpaceWaiting = space_of s.waiting.spaces (number_space form) in
-      subst (ArePlain w) (sym is) (padded_plain w gs (padding_of s form gs) (frames_spelled time s (number_space form) gs wait h))
+      subst (ArePlain w) (sym is) (padded_plain w gs n (frames_spelled time s (number_space form) gs wait h))
 
   -- what receiving and sending keep, from one moment to another: the deeds leave nothing out, what waits lies below the limit, and
   -- datagrams go to the same address
@@ -541,8 +548,8 @@ module _ {t : Types} where
   }
   keeps_move PeerClosesToo r a h = record { deeds = λ b. one_more a.did _ tt; crypto = λ p. p; path = refl; notices = λ p k. k }
   keeps_move (PeerCloses time) r a h = record { deeds = λ b. one_more a.did _ tt; crypto = λ p. p; path = refl; notices = λ p k. k }
-  keeps_move Owe r a h = record { deeds = λ b p. p; crypto = begun_below a.state.waiting a.state.waiting.close_owed; path = refl; notices = λ p k. k }
-  keeps_move (Shut time close) r a h = record { deeds = λ b. one_more a.did _ tt; crypto = begun_below a.state.waiting a.state.waiting.close_owed; path = refl; notices = λ p k. k }
+  keeps_move Owe r a h = record { deeds = λ b p. p; crypto = λ p. p; path = refl; notices = λ p k. k }
+  keeps_move (Shut time close) r a h = record { deeds = λ b. one_more a.did _ tt; crypto = λ p. p; path = refl; notices = λ p k. k }
   keeps_move (Raise to) r a h = record { deeds = λ b. one_more a.did _ tt; crypto = λ p. p; path = refl; notices = λ p k. k }
   keeps_move (Give why) r a h = record { deeds = λ b. one_more a.did _ tt; crypto = λ p. p; path = refl; notices = λ p k. same_notices a.state.life (reason_given a.state.life why) (given_notices a.state.life why) k }
   keeps_move _ r a h = absurd r
@@ -568,16 +575,18 @@ module _ {t : Types} where
 
   -- what a transmit does keeps the same: each of its moves but those that take and seal
   keeps_sending : (x : Move t) → IsSending x → (a : At t) → MayMove x a.state → Keeps a (move_to x a)
-  unfolding MayMove move_to state_move deeds_move waiting_move close_begun space_left paths_move path_idle path_kept path_sent life_move life_closed life_raised
+  unfolding MayMove move_to state_move deeds_move waiting_move close_begun space_left paths_move path_kept path_sent life_move life_closed life_raised
   keeps_sending (Begin id opens) r a h = record { deeds = λ b p. p; crypto = packet_below a.state id opens; path = refl; notices = λ p k. k }
   keeps_sending Skip r a h = record { deeds = λ b p. p; crypto = λ p. p; path = refl; notices = λ p k. k }
   keeps_sending (Arm time) r a h = record { deeds = λ b p. p; crypto = λ p. p; path = refl; notices = λ p k. k }
   keeps_sending (Forget id) r a h = record { deeds = λ b p. p; crypto = set_below a.state.waiting id _ (nothing_below (space_of a.state.waiting.spaces id)); path = refl; notices = λ p k. k }
-  keeps_sending (Shut time close) r a h = record { deeds = λ b. one_more a.did _ tt; crypto = begun_below a.state.waiting a.state.waiting.close_owed; path = refl; notices = λ p k. k }
+  keeps_sending (Shut time close) r a h = record { deeds = λ b. one_more a.did _ tt; crypto = λ p. p; path = refl; notices = λ p k. k }
   keeps_sending (Raise to) r a h = record { deeds = λ b. one_more a.did _ tt; crypto = λ p. p; path = refl; notices = λ p k. k }
   keeps_sending (Give why) r a h = record { deeds = λ b. one_more a.did _ tt; crypto = λ p. p; path = refl; notices = λ p k. same_notices a.state.life (reason_given a.state.life why) (given_notices a.state.life why) k }
-  keeps_sending (Finish bytes) r a h = record { deeds = λ b p. p; crypto = λ p. p; path = refl; notices = λ p k. k }
-  keeps_sending (Say q) r a h = record { deeds = λ b. one_more a.did _ tt; crypto = λ p. p; path = refl; notices = λ p k. k }
+  keeps_sending (Spend tokens) r a h = record { deeds = λ b p. p; crypto = λ p. p; path = refl; notices = λ p k. k }
+  keeps_sending (Hold until) r a h = record { deeds = λ b p. p; crypto = λ p. p; path = refl; notices = λ p k. k }
+  keeps_sending (Finish bytes control) r a h = record { deeds = λ b p. p; crypto = λ p. p; path = refl; notices = λ p k. k }
+  keeps_sending (Say q) r a h = record { deeds = λ b. one_more a.did _ tt; crypto = λ p. p; path = quiet_remote a.state.paths q; notices = λ p k. k }
   keeps_sending _ r a h = absurd r
 
   -- and those, as its frames leave nothing out
@@ -594,13 +603,13 @@ module _ {t : Types} where
         notices = λ p k. k;
       }
 
-  keeps_transmit : (m : Meaning t) (time : ℕ) (choice : Choice) (a : At t) → MayTransmit m time choice a → Keeps a (transmit_after m time choice a)
-  keeps_transmit m time choice a may = holds_transmit Keeps keeps_here keeps_next keeps_sending keeps_sealed m time choice a may
+  keeps_transmit : (m : Meaning t) (time asked : ℕ) (choice : Choice) (a : At t) → MayTransmit m time asked choice a → Keeps a (transmit_after m time asked choice a)
+  keeps_transmit m time asked choice a may = holds_transmit Keeps keeps_here keeps_next keeps_sending keeps_sealed m time asked choice a may
 
   -- the application closes, or has closed before
   keeps_closed : (time : ℕ) (close : Close) (a : At t) (b : Bool) → Keeps a (if b then move_to (Shut time close) a else a)
   unfolding move_to state_move deeds_move waiting_move close_begun paths_move life_move life_closed
-  keeps_closed time close a true = record { deeds = λ b. one_more a.did _ tt; crypto = begun_below a.state.waiting a.state.waiting.close_owed; path = refl; notices = λ p k. k }
+  keeps_closed time close a true = record { deeds = λ b. one_more a.did _ tt; crypto = λ p. p; path = refl; notices = λ p k. k }
   keeps_closed time close a false = keeps_here a
 
   -- the application calls the streams
@@ -627,7 +636,7 @@ module _ {t : Types} where
   unfolding IsAllowed input_after close_after move_to state_move deeds_move waiting_move ping_asked paths_move life_move
   keeps_input m (input.Datagram time remote ecn bytes) choice a may = keeps_datagram m (record { time = time; remote = remote; mark = ecn }) bytes a
   keeps_input m (input.Timeout time) choice a may = keeps_timeout m time a
-  keeps_input m (input.Transmit time max) choice a may = keeps_transmit m time choice a may
+  keeps_input m (input.Transmit time max) choice a may = keeps_transmit m time max choice a may
   keeps_input m (input.Open time dir) choice a may = keeps_calls (calls_of (input.Open time dir) choice.read a.state.lower.streams) a
   keeps_input m (input.Accept time dir) choice a may = keeps_calls (calls_of (input.Accept time dir) choice.read a.state.lower.streams) a
   keeps_input m (input.Write time id body) choice a may = keeps_calls (calls_of (input.Write time id body) choice.read a.state.lower.streams) a
@@ -635,7 +644,7 @@ module _ {t : Types} where
   keeps_input m (input.ResetSend time id code) choice a may = keeps_calls (calls_of (input.ResetSend time id code) choice.read a.state.lower.streams) a
   keeps_input m (input.StopRecv time id code) choice a may = keeps_calls (calls_of (input.StopRecv time id code) choice.read a.state.lower.streams) a
   keeps_input m (input.Read time id max) choice a may = keeps_calls (calls_of (input.Read time id max) choice.read a.state.lower.streams) a
-  keeps_input m (input.SendDatagram time body) choice a may = keeps_post (datagrams.Sent (datagram_limit a.state) body) a
+  keeps_input m (input.SendDatagram time body) choice a may = keeps_post (datagrams.Sent (datagram_limit a.state) true body) a
   keeps_input m (input.RecvDatagram time) choice a may = keeps_post datagrams.Taken a
   keeps_input m (input.Close time code reason) choice a may = keeps_closed time _ a (is_open a.state.life.state)
   keeps_input m (input.Ping time) choice a may = record { deeds = λ b p. p; crypto = set_below a.state.waiting a.state.keys.highest _ (λ p. p); path = refl; notices = λ p k. k }
@@ -645,17 +654,18 @@ module _ {t : Types} where
   keeps_input m (input.Identifiers time given) choice a may = keeps_issue time given a
 
   -- what it answers
-  out_plain : (e : Ending) (s : View t) (size : ℕ) (bytes : List ℕ) → IsPlainAddress s.paths.current.remote → IsAnswerPlain (out_of (sent_out e (transmit_with s size)) bytes)
+  out_plain : (e : Ending) (s : View t) (b : Batch) (bytes : List ℕ) → IsPlainAddress s.paths.current.remote → IsAnswerPlain (out_of (sent_out e (transmit_with s b)) bytes)
   unfolding transmit_with
-  out_plain Went s size bytes h = h
-  out_plain (Hushed quiet) s size bytes h = tt
-  out_plain (Died why) s size bytes h = tt
+  out_plain Went s b bytes h = h
+  out_plain Ending.Held s b bytes h = h
+  out_plain (Hushed quiet) s b bytes h = tt
+  out_plain (Died why) s b bytes h = tt
 
   answer_plain : (m : Meaning t) (i : Input) (choice : Choice) (a : At t) → IsPlainAddress a.state.paths.current.remote → IsAnswerPlain (answer_of m i choice a)
   unfolding answer_of transmit_of
   answer_plain m (input.Datagram time remote ecn bytes) choice a h = done_plain (is_taken m a.state remote bytes)
   answer_plain m (input.Timeout time) choice a h = tt
-  answer_plain m (input.Transmit time max) choice a h = out_plain choice.ending a.state (gone_after m time choice a).batch.total (transmit_bytes m time choice a) h
+  answer_plain m (input.Transmit time max) choice a h = out_plain choice.ending a.state (gone_after m time max choice a).batch (transmit_bytes m time max choice a) h
   answer_plain m (input.Open time dir) choice a h = opened_plain (may_open dir a.state.lower.streams) (next_own dir a.state.lower.streams)
   answer_plain m (input.Accept time dir) choice a h = accepted_plain (has_accepted (by_dir dir a.state.lower.streams.peer)) (next_accepted dir a.state.lower.streams)
   answer_plain m (input.Write time id body) choice a h = write_plain (write_refusal id a.state.lower.streams) (count_written id body a.state.lower.streams)

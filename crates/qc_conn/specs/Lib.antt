@@ -1,4 +1,5 @@
 pub mod Lending
+pub mod Posting
 pub mod Parts
 pub mod Refusal
 pub mod RefusedText

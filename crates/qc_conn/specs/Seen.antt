@@ -24,14 +24,18 @@ module _ {t : Types} {R : Type 0} where
   abbrev pub with_streams : Seen t R → StreamsState → Seen t R
   with_streams s streams = record s { core = record s.core { lower = record s.core.lower { streams = streams } }; failed = streams.failed }
 
+  -- the same with this core, and with the mark of its streams
+  abbrev pub with_core : Seen t R → Held t R → Seen t R
+  with_core s core = record s { core = core; failed = core.lower.streams.failed }
+
 -- so many steps more
 abbrev pub counted : (before steps : ℕ) → ℕ
 counted before steps = min (before + steps) 18446744073709551615
 
--- a transmit into an empty buffer, whose deeds no one keeps
-pub record Sends {t : Types} (m : Meaning t) (time : ℕ) (s s' : View t) (sent : Option Transmit) (buffer : List ℕ) : Type 0 where
+-- a transmit of at most so many datagrams into an empty buffer, whose deeds no one keeps
+pub record Sends {t : Types} (m : Meaning t) (time asked : ℕ) (s s' : View t) (sent : Option Transmit) (buffer : List ℕ) : Type 0 where
   pub deeds : List Did
-  pub transmits : Transmits m time (began s time) (at s' deeds) sent buffer
+  pub transmits : Transmits m time asked (began s time) (at s' deeds) sent buffer
 
 -- flow control is kept by what became of streams that were new, with windows of 64 bits (RFC 9000, sections 4.1 and 4.6)
 unfoldable pub KeepsCredit : (s s' : StreamsState) → Type 0

@@ -342,8 +342,8 @@ impl<U: Suite> Connection<U> {
         }
     }
 
-    /// Seals what is due at `now` into `buf`, which is empty, and says where it goes: at most `max_datagrams` datagrams,
-    /// and so far at most one. None exactly where nothing is sealed: the connection had ended, nothing was owed, the path is
+    /// Seals what is due at `now` into `buf`, which is empty, and says where it goes: at most `max_datagrams` datagrams, or one where the
+    /// configuration allows no segmentation. None exactly where nothing is sealed: the connection had ended, nothing was owed, the path is
     /// blocked, or a limit is reached, which ends the connection: the key has sealed as many packets as it may, the packet
     /// numbers are used up, or an Initial packet's token leaves no room for a close. Behind a packet whose key may seal only one more the connection closes.
     ///
@@ -360,7 +360,7 @@ impl<U: Suite> Connection<U> {
     ) -> Result<Option<Transmit>, Fault>
         requires some { 1 ≤ max_datagrams }
         requires empty { buf.old.items ≡ [] }
-        ensures sends { IfOk result (λ sent. Sends ⟦<U as Means>⟧.meaning now (ideal U.Random.stream self.old.core) (ideal U.Random.stream self.new.core) sent buf.new.items) }
+        ensures sends { IfOk result (λ sent. Sends ⟦<U as Means>⟧.meaning now max_datagrams (ideal U.Random.stream self.old.core) (ideal U.Random.stream self.new.core) sent buf.new.items) }
         ensures clock { OnOk result (self.new.core.timers.greatest ≡ max self.old.core.timers.greatest now) }
         ensures alive { OnOk result (self.new.failed ≡ false) }
         ensures failed { self.old.failed ≡ true → (result ≡ Err Fault.Failed) × (self.new ≡ self.old) }
@@ -368,11 +368,10 @@ impl<U: Suite> Connection<U> {
         ensures memory { result ≡ Err Fault.OutOfMemory → self.new.failed ≡ true }
         ensures cut_back { OnErr result (buf.new.items ≡ []) }
     {
-        let _most = max_datagrams;
         if self.is_failed() {
             return Err(Fault::Failed);
         }
-        match core_send(&mut self.core, alloc, now, buf) {
+        match core_send(&mut self.core, alloc, now, max_datagrams, buf) {
             Ok(sent) => Ok(sent),
             Err(_) => {
                 self.fail();

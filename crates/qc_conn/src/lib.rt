@@ -2,6 +2,7 @@
 #![tactic(auto)]
 
 mod connection;
+mod datagrams;
 mod directions;
 mod driving;
 mod laws;
@@ -11,6 +12,7 @@ pub mod text;
 mod views;
 
 pub use connection::{Connection, FirstError};
+pub use datagrams::{Datagrams, SendDatagramError};
 pub use driving::{BadWhy, DriveError, DriveKind, drive};
 pub use laws::text_tells_run;
 pub use parts::Parts;

@@ -32,6 +32,16 @@ use qc_state::{
 use std::alloc::{AllocError, Global};
 use std::net::SocketAddr;
 
+/// The size of each datagram but the last, where there are several.
+fn segment_told(size: Option<usize>) -> Option<u64>
+    ensures { result ≡ size }
+{
+    match size {
+        None => None,
+        Some(size) => Some(size as u64),
+    }
+}
+
 /// The answer to a transmit.
 fn sent_answer(sent: Option<Transmit>, buf: Vec<u8>) -> Answer
     ensures { result ≡ out_of sent buf.items }
@@ -40,7 +50,7 @@ fn sent_answer(sent: Option<Transmit>, buf: Vec<u8>) -> Answer
         None => Answer::Nothing,
         Some(sent) => Answer::Out {
             destination: sent.destination,
-            segment: None,
+            segment: segment_told(sent.segment_size),
             ecn: sent.ecn,
             bytes: Body::from_vec(buf),
         },
@@ -52,14 +62,16 @@ pub(crate) fn core_send<U: Suite>(
     core: &mut Core<U>,
     alloc: Global,
     now: Instant,
+    max_datagrams: usize,
     buf: &mut Vec<u8>,
 ) -> Result<Option<Transmit>, AllocError>
-    requires { buf.old.items ≡ [] }
-    ensures { IfOk result (λ sent. Sends ⟦<U as Means>⟧.meaning now (ideal U.Random.stream core.old) (ideal U.Random.stream core.new) sent buf.new.items) }
+    requires some { 1 ≤ max_datagrams }
+    requires empty { buf.old.items ≡ [] }
+    ensures { IfOk result (λ sent. Sends ⟦<U as Means>⟧.meaning now max_datagrams (ideal U.Random.stream core.old) (ideal U.Random.stream core.new) sent buf.new.items) }
 {
     let mut did = Dids::new(alloc);
     core.clock(now);
-    let sent = transmit(core, alloc, now, buf, &mut did)?;
+    let sent = transmit(core, alloc, now, max_datagrams, buf, &mut did)?;
     Ok(sent)
 }
 
@@ -164,12 +176,13 @@ fn transmit_call<U: Suite>(
     max_datagrams: usize,
     did: &mut Dids,
 ) -> Result<Answer, AllocError>
-    requires { did.old ≡ [] }
+    requires some { 1 ≤ max_datagrams }
+    requires none { did.old ≡ [] }
     ensures { IfOk result (λ answer. Calls ⟦<U as Means>⟧.meaning (ideal U.Random.stream core.old) (Input.Transmit now max_datagrams) (held U.Random.stream core.new did.new) answer) }
 {
     let mut buf = Vec::new(alloc);
     core.clock(now);
-    let sent = transmit(core, alloc, now, &mut buf, did)?;
+    let sent = transmit(core, alloc, now, max_datagrams, &mut buf, did)?;
     Ok(sent_answer(sent, buf))
 }
 
@@ -325,7 +338,7 @@ fn issue_call<U: Suite>(
 }
 
 /// The call that an input is for.
-#[tactic(auto, using(crate::proofs::Refusals::ids_good))]
+#[tactic(auto, using(crate::proofs::Refusals::ids_good, crate::proofs::Refusals::some_allowed))]
 fn call<U: Suite>(
     core: &mut Core<U>,
     alloc: Global,
@@ -380,6 +393,7 @@ fn report_next(event: Option<Event>, events: &mut Events) -> Result<(), AllocErr
             Event::Connected => events.push_connected(),
             Event::ConnectionLost { reason } => events.push_lost(reason),
             Event::DatagramReceived => events.push_datagram(),
+            Event::DatagramsUnblocked => events.push_unblocked(),
             Event::Stream(event) => events.push_stream(event),
         },
     }

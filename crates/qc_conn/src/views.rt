@@ -1,10 +1,11 @@
-//! The application's views of a connection's streams.
+//! The application's views of a connection's streams, and of its datagrams.
 
 ghost use Rattle.std.specs.Prelude.{◌≡◌, true};
 ghost use Rattle.std.specs.Borrow.{sem};
 ghost use Rattle.qc_state.specs.Streams.{receives_on, sends_on};
 
 use crate::connection::Connection;
+use crate::datagrams::Datagrams;
 use crate::directions::{receives_on, sends_on};
 use crate::parts::Parts;
 use qc_base::StreamId;
@@ -12,7 +13,7 @@ use qc_state::Suite;
 use qc_streams::{RecvStream, SendStream, Streams};
 
 impl<U: Suite> Connection<U> {
-    ghost use Rattle.qc_conn.specs.Lending.{LendsStreams};
+    ghost use Rattle.qc_conn.specs.Lending.{LendsCore, LendsStreams};
 
     /// Whether this end sends on the stream with an id: it is bidirectional, or this end's own (RFC 9000, 2.1). Then `send_stream` may
     /// be called.
@@ -65,5 +66,17 @@ impl<U: Suite> Connection<U> {
     {
         let lower = &mut self.core.lower;
         lower.streams.send_stream(id)
+    }
+
+    /// The application's view of its datagrams, by which it sends them, and takes those that came (RFC 9221). What its calls do, they do to
+    /// the connection; where one met want of memory, it has failed. On one that had failed before, sending answers so.
+    pub fn datagrams(&mut self) -> Datagrams<'_, U>
+        ensures* writes_back { sem 𝓛 (LendsCore ⟦<U as Parts>⟧.parts self.entry result.core) }
+        ensures value { result.core.now ≡ self.old.core }
+        ensures mark { result.core.now.lower.streams.failed ≡ self.old.failed }
+    {
+        Datagrams {
+            core: &mut self.core,
+        }
     }
 }

@@ -130,6 +130,19 @@ pub(crate) fn client_with_window(alloc: Global, window: u32) -> Option<Box<Conne
     fresh(alloc, setup).ok()
 }
 
+/// A client made at time 0 that keeps so many bytes of datagrams: of those that came, where any may come, and of those that are to be sent.
+pub(crate) fn client_with_buffers(
+    alloc: Global,
+    receive: Option<usize>,
+    send: usize,
+) -> Option<Box<Connection<Toy>>> {
+    let mut transport = TransportConfig::default();
+    transport.datagram_receive_buffer_size(receive);
+    transport.datagram_send_buffer_size(send);
+    let setup = setup(alloc, ToySettings::default(), transport)?;
+    fresh(alloc, setup).ok()
+}
+
 /// The core of a client made at time 0.
 fn core(alloc: Global) -> Option<Core<Toy>> {
     let setup = setup(alloc, ToySettings::default(), TransportConfig::default())?;

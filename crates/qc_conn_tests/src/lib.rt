@@ -7,6 +7,8 @@ mod call_tests;
 #[cfg(test)]
 mod clients;
 #[cfg(test)]
+mod datagram_tests;
+#[cfg(test)]
 mod event_tests;
 #[cfg(test)]
 mod limit_tests;

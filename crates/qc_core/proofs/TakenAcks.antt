@@ -10,8 +10,9 @@ use Rattle.qc_state.specs.declared.waiting.Waiting.{Waiting}
 use Rattle.qc_state.specs.Acks.{AckPart}
 use Rattle.qc_cids.specs.Steps as ids
 use Rattle.qc_datagrams.specs.Steps as posts
-use Rattle.qc_state.specs.Datagrams.{sealed_datagrams}
+use Rattle.qc_state.specs.Datagrams.{sealed_datagrams, told_by_all}
 use Rattle.qc_state.specs.Ids.{sealed_cids}
+use Rattle.qc_state.specs.Life.{more_heard}
 use Rattle.qc_state.specs.Lower.{datagrams_stepped, frames_sealed, ids_stepped, streams_stepped}
 use Rattle.qc_state.specs.Moves.{Take, state_move, numbers_move, keys_move, life_move, paths_move, timers_move, waiting_move, setup_move, lower_move}
 use Rattle.qc_state.specs.Setup.{ideal_setup}
@@ -22,6 +23,7 @@ use Rattle.qc_state.specs.View.{Held, ideal}
 use Rattle.qc_state.specs.Waiting.{waiting_without}
 use Rattle.qc_state.proofs.DatagramSteps.{datagrams_ack}
 use Rattle.qc_state.proofs.IdSteps.{cids_ack}
+use Rattle.qc_state.proofs.RoomTold.{untold}
 use Rattle.qc_state.proofs.SealedSteps.{sealed_ack}
 use Rattle.qc_streams.specs.Waits.{Step, after}
 
@@ -39,14 +41,16 @@ module _ {t : Types} {R : Type 0} (stream : R → Stream) where
       IfOk r (λ fs. ideal stream (record w { waiting = waiting }) ≡ state_move (Take id fs) (ideal stream v))
   unfolding state_move numbers_move keys_move life_move paths_move timers_move waiting_move setup_move lower_move frames_sealed ideal_setup
   ack_taken (Ok fs) v w time room id b waiting same part is =
+      let none : sealed_datagrams fs ≡ [] = datagrams_ack time room (space_of w.waiting.spaces id) fs b part in
+      let told : w.life ≡ more_heard (told_by_all (sealed_datagrams fs) w.lower.datagrams) w.life = untold fs w.lower.datagrams w.life none in
       let below =
       unstepped (sealed_steps fs) (sealed_datagrams fs) (sealed_cids fs) w.lower (sealed_ack time room (space_of w.waiting.spaces id) fs b part)
-      (datagrams_ack time room (space_of w.waiting.spaces id) fs b part) (cids_ack time room (space_of w.waiting.spaces id) fs b part) in
+      none (cids_ack time room (space_of w.waiting.spaces id) fs b part) in
       subst (λ (y : Held t R). ideal stream (record w { waiting = waiting }) ≡ state_move (Take id fs) (ideal stream y)) same
       (λ i. record {
         numbers = w.numbers;
         keys = w.keys;
-        life = w.life;
+        life = told i;
         paths = w.paths;
         timers = w.timers;
         waiting = is i;

@@ -25,7 +25,7 @@ pub(crate) fn send_datagram(
     body: &Body,
 ) -> Result<Option<SendRefusal>, AllocError>
     ensures refusal { IfOk result (λ refusal. refusal ≡ send_refusal most true body.now datagrams.old) }
-    ensures leads { OnOk result (datagrams.new ≡ after (Sent most body.now ∷ []) datagrams.old) }
+    ensures leads { OnOk result (datagrams.new ≡ after (Sent most true body.now ∷ []) datagrams.old) }
 {
     let bytes = Bytes::copy_from_slice(alloc, body.as_slice())?;
     match datagrams.send_refusal(most, true, &bytes) {
@@ -96,7 +96,7 @@ impl<U: Suite> Core<U> {
     /// of the call.
     pub fn send_datagram(&mut self, alloc: Global, body: &Body) -> Result<Answer, AllocError>
         ensures answer { IfOk result (λ answer. answer ≡ sent_answer (send_refusal (datagram_limit (ideal U.Random.stream self.old)) true body.now self.old.lower.datagrams)) }
-        ensures leads { OnOk result ((ideal U.Random.stream self.new) ≡ state_move (Post (Sent (datagram_limit (ideal U.Random.stream self.old)) body.now)) (ideal U.Random.stream self.old)) }
+        ensures leads { OnOk result ((ideal U.Random.stream self.new) ≡ state_move (Post (Sent (datagram_limit (ideal U.Random.stream self.old)) true body.now)) (ideal U.Random.stream self.old)) }
     {
         let most = self.datagram_limit();
         let refusal = self.do_send_datagram(alloc, most, body)?;

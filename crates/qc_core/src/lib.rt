@@ -5,6 +5,7 @@ mod calls;
 mod datagrams;
 mod handing;
 mod identifying;
+mod limits;
 mod moves;
 mod offers;
 mod packets;

@@ -12,7 +12,7 @@ ghost use Rattle.qc_frame.specs.FrameSpelling.{elicits};
 ghost use Rattle.qc_frame.specs.declared.frames.FrameOf.TheVariants as frames;
 ghost use Rattle.std.specs.List.{list_any};
 ghost use Rattle.qc_state.specs.Flight.{flown_packet};
-ghost use Rattle.qc_state.specs.Moves.{Clock, Ask, Take, Forget, Expect, Enter, Fail, Accept, Fix, Hear, Ack, Fire, Arm, Come, Pace, Ready, Release, Skip, Token, Learn, Want, Confirm, Establish, Tell, PeerClosesToo, PeerCloses, Owe, Shut, Raise, Finish, Say, Hand, Post, ReportReady, ReportConnected, ReportHeard, ReportAllHeard, ReportStream, ReportStreams, ReportLost, ReportNotice, ReportNotices, ReportDrained, move_to, state_move, tells_congestion};
+ghost use Rattle.qc_state.specs.Moves.{Clock, Ask, Take, Forget, Expect, Enter, Fail, Accept, Fix, Hear, Ack, Fire, Arm, Come, Pace, Ready, Release, Skip, Token, Learn, Want, Confirm, Establish, Tell, PeerClosesToo, PeerCloses, Owe, Shut, Raise, Say, Hand, Post, ReportReady, ReportConnected, ReportHeard, ReportAllHeard, ReportStream, ReportStreams, ReportLost, ReportNotice, ReportNotices, ReportDrained, move_to, state_move, tells_congestion};
 ghost use Rattle.qc_base.specs.declared.side.SpaceId.TheVariants.{«Data»};
 ghost use Rattle.qc_state.specs.Numbers.{is_skipped};
 ghost use Rattle.qc_state.specs.Recovering.{fired_by, probe_timeout_now, settled_by};
@@ -46,6 +46,7 @@ use qc_path::{Arrival, next_bundled_ack_time};
 use qc_state::flight::flown_packet;
 use qc_state::spaces::is_space;
 use qc_state::stream_settling::{fire, settle};
+use qc_state::unblocking::take_frames;
 use qc_state::waiting::holds_ack;
 use qc_state::{
     Body, Close, Did, Dids, EndpointEvent, EndpointEvents, Event, Events, Form, Layer, Means,
@@ -80,7 +81,8 @@ impl<U: Suite> Core<U> {
         self.waiting.ask_ping(space);
     }
 
-    /// Frames leave what waits, for a packet with so much room for them.
+    /// Frames leave what waits, for a packet with so much room for them; where a DATAGRAM among them gives room that one was refused for before,
+    /// that waits to be reported.
     pub fn do_take(
         &mut self,
         alloc: Global,
@@ -94,7 +96,15 @@ impl<U: Suite> Core<U> {
         ensures next { IfOk result (λ frames. AllNext frames self.old.lower.ids) }
         ensures leads { IfOk result (λ frames. (ideal U.Random.stream self.new) ≡ state_move (Take space frames) (ideal U.Random.stream self.old)) }
     {
-        self.waiting.take(&mut self.lower, alloc, now, space, room)
+        take_frames(
+            &mut self.waiting,
+            &mut self.lower,
+            &mut self.life,
+            alloc,
+            now,
+            space,
+            room,
+        )
     }
 
     /// The ACK leaves what waits, where there is something to acknowledge and so much room for it.
@@ -165,7 +175,7 @@ impl<U: Suite> Core<U> {
         self.fly(alloc, now, space, number, size, frames)?;
         let last = is_space(space, self.keys.highest);
         use_number(&mut self.numbers, &mut self.keys, form, number);
-        tell_waiting(&mut self.waiting, space, last, frames, next);
+        tell_waiting(&mut self.waiting, last, frames, next);
         Ok(())
     }
 
@@ -489,18 +499,11 @@ impl<U: Suite> Core<U> {
         did.push_rose(qc_state::life::rank(to))
     }
 
-    /// A transmit ends that sealed packets: so many bytes go to the path's address.
-    pub fn do_finish(&mut self, bytes: u64)
-        ensures { (ideal U.Random.stream self.new) ≡ state_move (Finish bytes) (ideal U.Random.stream self.old) }
-    {
-        self.paths.sent(bytes);
-    }
-
     /// A transmit sends nothing, for this cause.
     pub fn do_say(&mut self, did: &mut Dids, quiet: Quiet) -> Result<(), AllocError>
         ensures { OnOk result ((held U.Random.stream self.new did.new) ≡ move_to (Say quiet) (held U.Random.stream self.old did.old)) }
     {
-        self.paths.idle();
+        self.paths.quiet(quiet);
         did.push_quiet(quiet)
     }
 
@@ -553,7 +556,7 @@ impl<U: Suite> Core<U> {
         body: &Body,
     ) -> Result<Option<SendRefusal>, AllocError>
         ensures refusal { IfOk result (λ refusal. refusal ≡ send_refusal most true body.now self.old.lower.datagrams) }
-        ensures leads { OnOk result ((ideal U.Random.stream self.new) ≡ state_move (Post (Sent most body.now)) (ideal U.Random.stream self.old)) }
+        ensures leads { OnOk result ((ideal U.Random.stream self.new) ≡ state_move (Post (Sent most true body.now)) (ideal U.Random.stream self.old)) }
     {
         send_datagram(&mut self.lower.datagrams, alloc, most, body)
     }

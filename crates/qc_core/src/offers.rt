@@ -5,7 +5,8 @@ ghost use Rattle.qc_base.specs.PacketNumber.{number_len, number_of};
 ghost use Rattle.qc_state.specs.Acks.{is_ack_owed};
 ghost use Rattle.qc_state.specs.Ids.{ids_want};
 ghost use Rattle.qc_state.specs.Moves.{Begin, state_move};
-ghost use Rattle.qc_state.specs.Offers.{datagram_room, datagram_waits, oldest_in, packet_again, probe_begun, probe_sent, streams_filed, streams_want, waits_in, wants_sending, with_ping};
+ghost use Rattle.qc_state.specs.Offers.{datagram_fits, datagram_waits, oldest_in, packet_again, probe_begun, probe_sent, short_room, streams_filed, streams_want, waits_in, wants_sending, with_ping};
+ghost use Rattle.qc_state.specs.Sending.{wants_in};
 ghost use Rattle.qc_state.specs.Spaces.{space_of};
 ghost use Rattle.qc_state.specs.View.{ideal};
 
@@ -62,36 +63,49 @@ fn number_len(number: u64, acked: u64) -> usize
 }
 
 impl<U: Suite> Core<U> {
-    /// How much room for frames a datagram of the path has, behind the header of a 1-RTT packet with the number that comes next, and before
-    /// its tag.
-    #[tactic(auto, unfolding(qc_state::specs::Offers::datagram_room, qc_state::specs::Setup::ideal_setup))]
-    fn datagram_room(&self) -> usize
-        ensures { result ≡ datagram_room (ideal U.Random.stream self.now) }
+    /// How much room for frames a 1-RTT packet has that has so many bytes, with the number that comes next.
+    #[tactic(auto, unfolding(qc_state::specs::Offers::short_room, qc_state::specs::Setup::ideal_setup))]
+    pub fn short_room(&self, left: usize) -> usize
+        ensures { result ≡ short_room left (ideal U.Random.stream self.now) }
     {
         let number = self.numbers.coming(SpaceId::Data);
         let acked = self.numbers.acked_number(SpaceId::Data);
         let header = 1 + self.paths.current.remote_cid.len() + number_len(number, acked);
-        (DATAGRAM_SIZE as usize - TAG).saturating_sub(header)
+        left.saturating_sub(TAG).saturating_sub(header)
+    }
+
+    /// Whether the first DATAGRAM that waits has so much room in a packet of the space: they go in 1-RTT packets.
+    pub fn datagram_fits(&self, space: SpaceId, room: usize) -> bool
+        ensures { result ≡ datagram_fits space room (ideal U.Random.stream self.now) }
+    {
+        match space {
+            SpaceId::Initial | SpaceId::Handshake => false,
+            SpaceId::Data => first_fits(&self.lower.datagrams, room),
+        }
     }
 
     /// Whether a DATAGRAM waits in the space: the first one fits alone into a datagram of the path.
     #[tactic(auto, unfolding(qc_state::specs::Offers::datagram_waits))]
-    fn datagram_waits(&self, space: SpaceId) -> bool
+    pub(crate) fn datagram_waits(&self, space: SpaceId) -> bool
         ensures { result ≡ datagram_waits space (ideal U.Random.stream self.now) }
     {
-        match space {
-            SpaceId::Initial | SpaceId::Handshake => false,
-            SpaceId::Data => first_fits(&self.lower.datagrams, self.datagram_room()),
-        }
+        self.datagram_fits(space, self.short_room(DATAGRAM_SIZE as usize))
     }
 
     /// Whether a frame waits in the space that elicits an acknowledgement, DATAGRAMs aside.
     #[tactic(auto, unfolding(qc_state::specs::Offers::wants_sending))]
-    fn wants_sending(&self, space: SpaceId) -> bool
+    pub fn wants_sending(&self, space: SpaceId) -> bool
         ensures { result ≡ wants_sending (ideal U.Random.stream self.now) space }
     {
         self.waiting.wants(space)
             || (streams_want(&self.lower.streams, space) || ids_want(&self.lower.ids, space))
+    }
+
+    /// Whether a frame waits in the space that elicits an acknowledgement.
+    pub fn wants(&self, space: SpaceId) -> bool
+        ensures { result ≡ wants_in (ideal U.Random.stream self.now) space }
+    {
+        self.wants_sending(space) || self.datagram_waits(space)
     }
 
     /// Whether something waits in the space: such a frame, a DATAGRAM, an ACK that is owed, or a probe that is due.

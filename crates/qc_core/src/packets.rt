@@ -31,18 +31,17 @@ pub(crate) fn use_number<H: Drop, P: Drop>(
     keys.used(form, number);
 }
 
-/// A packet of the space with these frames is sealed, in the last of the spaces with keys or not: it is told of what waits, and
-/// behind an ACK no other one is bundled before `next`.
+/// A packet with these frames is sealed, in the last of the spaces with keys or not: it is told of what waits, and behind an ACK no other
+/// one is bundled before `next`.
 pub(crate) fn tell_waiting(
     waiting: &mut Waiting,
-    space: SpaceId,
     last: bool,
     frames: &FrameList,
     next: Instant,
 )
-    ensures { waiting.new ≡ bundle_next (packet_told waiting.old space last) frames.now next }
+    ensures { waiting.new ≡ bundle_next (packet_told waiting.old last) frames.now next }
 {
-    waiting.tell(space, last);
+    waiting.tell(last);
     waiting.bundle_next(frames, next);
 }
 

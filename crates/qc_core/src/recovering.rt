@@ -13,7 +13,7 @@ use qc_base::{Duration, Instant, Side, SpaceId};
 use qc_frame::FrameList;
 use qc_recovery::Around;
 use qc_state::flight::counts_in_flight;
-use qc_state::{Dids, Form, Suite};
+use qc_state::{Dids, Form, Means, Suite};
 
 /// Whether the peer of an end of this side has validated that end's address: a client always has; a server has once it
 /// acknowledged a Handshake or 1-RTT packet, or the handshake is confirmed (RFC 9002, section 6.2.2.1).
@@ -131,12 +131,13 @@ impl<U: Suite> Core<U> {
         !self.waiting.close_owed && counts_in_flight(frames)
     }
 
-    /// The loss timer is set anew behind a packet that was sealed, where it counts as in flight: `counts` is what `is_flown` said
-    /// before it was sealed. The packet's own bytes block nothing yet.
-    pub fn fly_after(&mut self, did: &Dids, now: Instant, counts: bool)
-        ensures { (held U.Random.stream self.new did.now) ≡ flown_after now counts (held U.Random.stream self.old did.now) }
+    /// A packet of so many bytes was sealed: where it counts as in flight, the pacer's tokens are fewer, and the loss timer is set
+    /// anew. `counts` is what `is_flown` said before it was sealed. The packet's own bytes block nothing yet.
+    pub fn fly_after(&mut self, did: &Dids, now: Instant, size: u64, counts: bool)
+        ensures { (held U.Random.stream self.new did.now) ≡ flown_after ⟦<U as Means>⟧.meaning now size counts (held U.Random.stream self.old did.now) }
     {
         if counts {
+            self.spend(did, now, size);
             self.arm_with(did, false, now);
         }
     }

@@ -1,5 +1,5 @@
 -- What happens to the datagrams of a connection, as steps (RFC 9221)
-use Rattle.std.specs.Prelude.{ℕ, true, if◌then◌else◌, List, [], ◌∷◌, Option, None, Some}
+use Rattle.std.specs.Prelude.{ℕ, Bool, if◌then◌else◌, List, [], ◌∷◌, Option, None, Some}
 use Rattle.qc_datagrams.specs.declared.datagrams.Datagrams.{Datagrams}
 use Rattle.qc_datagrams.specs.declared.datagrams.SendRefusal.{SendRefusal}
 use Rattle.qc_datagrams.specs.Datagrams.{frame_taken, is_refused, room_told, send_queued, send_refusal, send_refused}
@@ -11,9 +11,10 @@ pub data Step : Type 0 where
   Came : List ℕ → Step
   -- the application takes the oldest that came
   Taken : Step
-  -- the application sends one, refused or not: the oldest are dropped for it. It may have so many bytes, where the peer takes datagrams
-  Sent : Option ℕ → List ℕ → Step
-  -- the oldest that is to be sent is sealed, and that there is room again needs no telling any more
+  -- the application sends one, refused or not. It may have so many bytes, where the peer takes datagrams; where there is no room for it, the
+  -- oldest are dropped, if that is allowed
+  Sent : Option ℕ → (drops : Bool) → List ℕ → Step
+  -- the oldest that is to be sent is sealed; that one was refused before because of a full buffer is remembered no longer
   Sealed : Step
 
 -- one is queued to be sent, unless it is refused
@@ -25,7 +26,7 @@ sent_unless (Some refusal) d s = send_refused refusal s
 unfoldable pub after_step : Step → Datagrams → Datagrams
 after_step (Came d) s = if is_refused d s then s else frame_taken d s
 after_step Taken s = record s { incoming = rest s.incoming }
-after_step (Sent most d) s = sent_unless (send_refusal most true d s) d s
+after_step (Sent most drops d) s = sent_unless (send_refusal most drops d s) d s
 after_step Sealed s = room_told (record s { outgoing = rest s.outgoing })
 
 -- what steps leave, one after the other

@@ -157,8 +157,8 @@ impl Datagrams {
         }
     }
 
-    /// The oldest datagram that is to be sent leaves the queue, to be sealed; that there is room again
-    /// needs no telling any more. None exactly where none is to be sent.
+    /// The oldest datagram that is to be sent leaves the queue, to be sealed; whether one was refused
+    /// before, because the buffer was full, is remembered no longer. None exactly where none is to be sent.
     #[tactic(auto, unfolding(crate::specs::Steps::after_step, crate::specs::Datagrams::room_told))]
     pub fn seal(&mut self) -> Option<Bytes>
         ensures given { option_to_list result ≡ first self.old.outgoing }
@@ -166,17 +166,5 @@ impl Datagrams {
     {
         self.blocked = false;
         self.outgoing.pop()
-    }
-
-    /// A packet with a datagram was sealed: whether one had been refused before, because the buffer
-    /// was full. That is told once.
-    #[tactic(auto, unfolding(crate::specs::Datagrams::room_told))]
-    pub fn tell_room(&mut self) -> bool
-        ensures told { result ≡ self.old.blocked }
-        ensures once { self.new ≡ room_told self.old }
-    {
-        let blocked = self.blocked;
-        self.blocked = false;
-        blocked
     }
 }

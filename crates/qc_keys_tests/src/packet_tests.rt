@@ -1,7 +1,7 @@
 //! Packets built and opened with toy keys.
 
 use bytes::{Bytes, BytesMut};
-use qc_base::{ConnectionId, PacketNumber, ResetToken, Side, SpaceId};
+use qc_base::{ConnectionId, LongType, PacketNumber, ResetToken, Side, SpaceId};
 use qc_crypto::{HeaderKey, KeySource, PacketKey, ServerConfig};
 use qc_frame::{FrameList, FrameOf};
 use qc_header::{Header, InitialHeader, Packet, PartialDecode};
@@ -61,22 +61,30 @@ fn ping(alloc: Global, epoch: u64) -> Result<Vec<u8>, Fail> {
     Ok(buf)
 }
 
-// What becomes of a packet at a server in epoch 0 that received up to `rx`, and its payload afterwards.
+// The packet at the front of these bytes, and what is behind it.
+fn first(alloc: Global, bytes: &[u8]) -> Result<(PartialDecode, Option<BytesMut>), Fail> {
+    let datagram = BytesMut::copy_from_slice(alloc, bytes)?;
+    let cut = PartialDecode::new(datagram, 0, &[1], false)
+        .ok()
+        .ok_or("no header")?;
+    Ok(cut)
+}
+
+// What becomes of the packet at the front of these bytes at a server in epoch 0 that received up to `rx`, and its payload
+// afterwards. The server opens Handshake packets with the key of its 1-RTT packets.
 fn opened(
     alloc: Global,
     bytes: &[u8],
     rx: u32,
 ) -> Result<(Result<Option<DecryptPacketResult>, OpenError>, BytesMut), Fail> {
-    let datagram = BytesMut::copy_from_slice(alloc, bytes)?;
-    let (partial, _) = PartialDecode::new(datagram, 0, &[1], false)
-        .ok()
-        .ok_or("no header")?;
+    let (partial, _) = first(alloc, bytes)?;
     let key = header_key().ok_or("no keys")?;
     let told = unprotect_header(partial, Some(&key), None)?.ok_or("cut")?;
     let mut packet = told.packet.ok_or("cut")?;
     let ring = KeyRing::new(KEYS.keys(Side::Server, 0), KEYS.keys(Side::Server, 1));
+    let plain = KEYS.keys(Side::Server, 0).remote;
     let keys = OpenKeys {
-        plain: None,
+        plain: Some(&plain),
         early: None,
         ring: Some(&ring),
     };
@@ -120,13 +128,14 @@ fn short_header() -> Header {
     }
 }
 
-// A PING in a packet of at most 1200 bytes, sealed in one call, and the frames and bytes that there are then.
-#[tactic(auto, using(qc_packet::proofs::Full::room_enough))]
+// Seals a PING in a packet of at most 1200 bytes at the end of a buffer, in one call, and gives the frames that there are then.
+#[tactic(auto, using(qc_packet::proofs::Full::room_enough, qc_packet::proofs::Behind::most_is))]
 fn seal_ping(
     alloc: Global,
     slot: &Slot,
     header: &Header,
-) -> Result<(Result<(), BuildError>, Vec<u8>, FrameList), Fail> {
+    buf: &mut Vec<u8>,
+) -> Result<(Result<(), BuildError>, FrameList), Fail> {
     let header_key = header_key().ok_or("no keys")?;
     let keys = KEYS.keys(Side::Client, 0);
     let mut frames = FrameList::new(alloc);
@@ -137,7 +146,6 @@ fn seal_ping(
     if header.number().is_none() || len > 1180 || len + payload.len() > 1184 {
         return Err("too long".into());
     }
-    let mut buf = Vec::new(alloc);
     let sealed = seal_padded(
         &header_key,
         &keys.local,
@@ -146,15 +154,16 @@ fn seal_ping(
         &mut frames,
         1200,
         0,
-        &mut buf,
+        buf,
     );
-    Ok((sealed, buf, frames))
+    Ok((sealed, frames))
 }
 
 // The same packet, sealed in one call, and its frames: it is filled up to the 22 bytes that each packet has at least.
 fn sealed_ping(alloc: Global, flip: bool) -> Result<(Vec<u8>, FrameList), Fail> {
     let slot = Slot { flip, ..slot(7) };
-    let (sealed, buf, frames) = seal_ping(alloc, &slot, &short_header())?;
+    let mut buf = Vec::new(alloc);
+    let (sealed, frames) = seal_ping(alloc, &slot, &short_header(), &mut buf)?;
     sealed.ok().ok_or("refused")?;
     Ok((buf, frames))
 }
@@ -182,6 +191,48 @@ fn a_packet_with_a_flipped_fixed_bit_is_sealed(rt: HostRuntime) -> Result<(), Fa
     let sealed =
         b"\x00\x1f\x01\x00\x00\x00\x18\x30\x48\x60\x78\x92\xa8\xc0\xd8\xf0\x08\x20\x38\x50\x68\x80";
     assert_eq!(rt; packet.as_slice(), sealed.as_slice());
+    Ok(())
+}
+
+// The header of a Handshake packet that has number 7, between empty ids.
+fn handshake_header() -> Header {
+    Header::Long {
+        ty: LongType::Handshake,
+        dst_cid: ConnectionId::new(b""),
+        src_cid: ConnectionId::new(b""),
+        number: PacketNumber::U8(7),
+        version: 1,
+    }
+}
+
+// A 1-RTT packet that is sealed behind a Handshake packet has the bytes that it has by itself, and their buffer is a datagram
+// of both, which open. The first is padded until its number of one byte and its payload have 4 bytes, the second until it has 6
+// bytes beside its tag.
+#[test]
+fn a_packet_is_sealed_behind_another(rt: HostRuntime) -> Result<(), Fail> {
+    let mut buf = Vec::new(rt.alloc());
+    for header in [handshake_header(), short_header()] {
+        let (sealed, _) = seal_ping(rt.alloc(), &slot(7), &header, &mut buf)?;
+        sealed.ok().ok_or("refused")?;
+    }
+    let (_, rest) = first(rt.alloc(), buf.as_slice())?;
+    let behind = rest.ok_or("one packet")?;
+    let sealed =
+        b"\x40\x5f\x01\x00\x00\x00\x58\xb0\x08\x60\xb8\x12\x68\xc0\x18\x70\xc8\x20\x78\xd0\x28\x80";
+    assert_eq!(rt; behind.as_slice(), sealed.as_slice());
+    let told = DecryptPacketResult {
+        number: 7,
+        outgoing_key_update_acked: false,
+        incoming_key_update: false,
+    };
+    for (bytes, want) in [
+        (buf.as_slice(), b"\x01\x00\x00".as_slice()),
+        (behind.as_slice(), b"\x01\x00\x00\x00".as_slice()),
+    ] {
+        let (answer, payload) = opened(rt.alloc(), bytes, 0)?;
+        assert_eq!(rt; answer, Ok(Some(told)));
+        assert_eq!(rt; payload.as_slice(), want);
+    }
     Ok(())
 }
 
@@ -276,17 +327,21 @@ fn tokens_leave_room(rt: HostRuntime) -> Result<(), Fail> {
     Ok(())
 }
 
-// What a slot and a header are refused with, which refuse a builder and a padded packet alike: list and buffer are then as
-// before.
+// What a slot and a header are refused with, which refuse a builder and a packet behind a byte alike: list and buffer are then
+// as before.
 fn refusal(alloc: Global, slot: &Slot, header: &Header) -> Result<Option<BuildError>, Fail> {
     let mut begun = Vec::new(alloc);
     let refused = PacketBuilder::new(slot, header, &mut begun, 1200, 0, true).err();
-    let (sealed, buf, frames) = seal_ping(alloc, slot, header)?;
+    let mut buf = Vec::new(alloc);
+    buf.push(1)?;
+    let (sealed, frames) = seal_ping(alloc, slot, header, &mut buf)?;
     if sealed.err() != refused || begun.is_empty() != refused.is_some() {
         return Err("not alike".into());
     }
     let (listed, padding) = frames.parts();
-    if refused.is_some() && (!buf.is_empty() || listed.len() != 1 || padding != 0) {
+    if refused.is_some()
+        && (buf.as_slice() != b"\x01".as_slice() || listed.len() != 1 || padding != 0)
+    {
         return Err("changed".into());
     }
     Ok(refused)

@@ -41,12 +41,12 @@ use Rattle.qc_state.specs.Sending.{Choice, MayTransmit, packet_size, transmit_af
 use Rattle.qc_state.specs.Spaces.{space_of}
 use Rattle.qc_state.specs.Stopping.{killed_after}
 use Rattle.qc_state.specs.Timeouts.{ack_expired, close_expired, idle_expired, loss_expired, pacing_expired, timeout_after, ids_expired, wanted_anew}
-use Rattle.qc_state.specs.Timers.{ack_delay_most, clock_set, has_come, timers_accepted, timers_armed, timers_closing, timers_paced, timers_released, timers_stopped, timers_issued, timers_outlived}
+use Rattle.qc_state.specs.Timers.{ack_delay_most, clock_set, has_come, timers_accepted, timers_armed, timers_closing, timers_held, timers_paced, timers_released, timers_stopped, timers_issued, timers_outlived}
 use Rattle.qc_state.specs.Types.{Types, Meaning}
 use Rattle.qc_state.specs.View.{View, At}
 use Rattle.qc_state.specs.Waiting.{ack_released, bundle_next, close_begun, crypto_written, done_asked, frames_again, holds_back, nothing_left, packet_came, packet_told, ping_asked, probe_spent, released, space_left, waiting_without}
 use Rattle.qc_state.specs.Waiting as waiting
-use Rattle.qc_laws.proofs.AckMarks.{IsTaken, acking_timer, all_again_acks, before, came_by, closed_marks, data_marks, elsewhere_timer, fired_marks, held_before, holding_timer, later, or_false, put_marks, received_asked, received_delay, sealed_marks, settled_marks}
+use Rattle.qc_laws.proofs.AckMarks.{IsTaken, acking_timer, all_again_acks, before, came_by, data_marks, elsewhere_timer, fired_marks, held_before, holding_timer, later, or_false, put_marks, received_asked, received_delay, sealed_marks, settled_marks}
 use Rattle.qc_state.proofs.Ends.{given_by}
 use Rattle.qc_laws.proofs.KnownMoves.{packet_known}
 use Rattle.qc_state.proofs.OpenPackets.{holds_packet, packet_received}
@@ -151,13 +151,13 @@ module _ {t : Types} where
   calm_marks m (Begin space opens) s k = begun_marks space opens s
   calm_marks m (Write bytes keys session) s k = put_marks s.keys.highest s.waiting.spaces (record (space_of s.waiting.spaces s.keys.highest) { crypto = waiting.crypto_more (space_of s.waiting.spaces s.keys.highest).crypto bytes }) refl
   calm_marks m Confirm s k = put_marks «Data» s.waiting.spaces (record (space_of s.waiting.spaces «Data») { done = true }) refl
-  calm_marks m Owe s k = closed_marks s.waiting s.waiting.close_owed
-  calm_marks m (Shut time close) s k = closed_marks s.waiting s.waiting.close_owed
+  calm_marks m Owe s k = refl
+  calm_marks m (Shut time close) s k = refl
   calm_marks m _ s k = refl
 
   -- the timer stays, or is stopped as the connection closes
   calm_timer : (m : Meaning t) (x : Move t) (s : View t) → IsCalm m x s → ((timers_move x s).max_ack_delay ≡ s.timers.max_ack_delay) ⊎ (((timers_move x s).max_ack_delay ≡ None) × (is_open (life_move x s).state ≡ false))
-  unfolding timers_move life_move life_closed life_drained life_raised clock_set timers_paced timers_armed timers_outlived timers_closing timers_stopped
+  unfolding timers_move life_move life_closed life_drained life_raised clock_set timers_paced timers_held timers_armed timers_outlived timers_closing timers_stopped
   calm_timer m (Take id fs) s k = absurd k
   calm_timer m (Accept time id n e g v) s k = absurd k
   calm_timer m Release s k = absurd k
@@ -300,9 +300,9 @@ module _ {t : Types} where
   sending_holding m now (Raise to) a h = calm_holding m now (Raise to) a h
   sending_holding m now x a h = calm_holding m now x a tt
 
-  transmit_holding : (m : Meaning t) (time : ℕ) (choice : Choice) (a : At t) → MayTransmit m time choice a → Holding time a (transmit_after m time choice a)
-  transmit_holding m time choice a may =
-      holds_transmit (Holding time) (holding_here time) (holding_next time) (λ x r b h. sending_holding m time x b r) (λ at form fs b h. seal_holding time at form fs b) m time choice a may
+  transmit_holding : (m : Meaning t) (time asked : ℕ) (choice : Choice) (a : At t) → MayTransmit m time asked choice a → Holding time a (transmit_after m time asked choice a)
+  transmit_holding m time asked choice a may =
+      holds_transmit (Holding time) (holding_here time) (holding_next time) (λ x r b h. sending_holding m time x b r) (λ at form fs b h. seal_holding time at form fs b) m time asked choice a may
 
   -- ---- timeouts
 
@@ -417,10 +417,10 @@ module _ {t : Types} where
   unfolding IsAllowed input_after close_after
   input_result m (input.Datagram time remote ecn bytes) choice a may = holding_result time a _ (datagram_holding m (record { time = time; remote = remote; mark = ecn }) bytes a)
   input_result m (input.Timeout time) choice a may = timeout_result m time a
-  input_result m (input.Transmit time max) choice a may = holding_result time a _ (transmit_holding m time choice a may)
+  input_result m (input.Transmit time max) choice a may = holding_result time a _ (transmit_holding m time max choice a may)
   input_result m (input.Close time code reason) choice a may = holding_result time a _ (close_by m time _ a (is_open a.state.life.state))
   input_result m (input.Ping time) choice a may = holding_result time a _ (calm_holding m time (Ask a.state.keys.highest) a tt)
-  input_result m (input.SendDatagram time body) choice a may = holding_result time a _ (calm_holding m time (Post (datagrams.Sent (datagram_limit a.state) body)) a tt)
+  input_result m (input.SendDatagram time body) choice a may = holding_result time a _ (calm_holding m time (Post (datagrams.Sent (datagram_limit a.state) true body)) a tt)
   input_result m (input.RecvDatagram time) choice a may = holding_result time a _ (calm_holding m time (Post datagrams.Taken) a tt)
   input_result m (input.Identifiers time given) choice a may = holding_result time a _ (calm_holding m time (Issue time given) a tt)
   input_result m i choice a may = holding_result (time_of i) a _ (called_input (Holding (time_of i)) (holding_here (time_of i)) (holding_next (time_of i)) (λ x b h. calm_holding m (time_of i) (Call x) b tt) i choice.read a may)

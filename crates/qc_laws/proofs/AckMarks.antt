@@ -26,7 +26,7 @@ use Rattle.qc_state.specs.Acks.{is_ack}
 use Rattle.qc_state.specs.Timers.{ack_delay_most, has_come, timers_acking, timers_holding, timers_sealed}
 use Rattle.qc_laws.proofs.CryptoPlaces.{bundled_spaces}
 use Rattle.qc_state.specs.Spaces.{space_of, with_space}
-use Rattle.qc_state.specs.Waiting.{acked_in, again, all_again, all_confirmed, bundle_next, confirmed, fired_in, lost_in, marks_begun, packet_told, packets_acked, packets_lost, probes_added, untold, waiting_without, without, without_all}
+use Rattle.qc_state.specs.Waiting.{acked_in, again, all_again, all_confirmed, bundle_next, confirmed, fired_in, lost_in, marks_begun, packet_told, packets_acked, packets_lost, probes_added, waiting_without, without, without_all}
 
 -- the marks of the packets of Data that came
 abbrev pub data_marks : Spaces SpaceWaiting → AckMarks
@@ -79,11 +79,6 @@ unfolding probes_added
 fired_marks v (fired.Lost id lost) = lost_marks v id lost
 fired_marks v (fired.Probe id count) = put_marks id v.spaces (record (space_of v.spaces id) { probes = plus (space_of v.spaces id).probes count }) refl
 fired_marks v fired.Nothing = refl
-
-pub closed_marks : (v : Waiting) (b : Bool) →
-    data_marks (if b then v else record v { spaces = record { initial = untold v.spaces.initial; handshake = untold v.spaces.handshake; application = untold v.spaces.application }; close_owed = true }).spaces ≡ data_marks v.spaces
-closed_marks v true = refl
-closed_marks v false = refl
 
 -- ---- frames that are sealed
 
@@ -212,14 +207,11 @@ taken_marks Initial v fs = inr refl
 taken_marks Handshake v fs = inr refl
 taken_marks Data v fs = inl (all_taken v.application fs)
 
-pub told_marks : (id : SpaceId) (v : Spaces SpaceWaiting) → data_marks (with_space v id (record (space_of v id) { told = true })) ≡ data_marks v
-told_marks id v = put_marks id v (record (space_of v id) { told = true }) refl
-
-pub sealed_marks : (id : SpaceId) (v : Waiting) (fs : List FrameValue) (last : Bool) (next : ℕ) → let w : Waiting = bundle_next (packet_told (waiting_without v id fs) id last) fs next in
+pub sealed_marks : (id : SpaceId) (v : Waiting) (fs : List FrameValue) (last : Bool) (next : ℕ) → let w : Waiting = bundle_next (packet_told (waiting_without v id fs) last) fs next in
     (IsTaken (list_any is_ack fs) (data_marks v.spaces) (data_marks w.spaces)) ⊎ (data_marks w.spaces ≡ data_marks v.spaces)
 unfolding bundle_next packet_told waiting_without
 sealed_marks id v fs last next = subst (λ (m : AckMarks). (IsTaken (list_any is_ack fs) (data_marks v.spaces) m) ⊎ (m ≡ data_marks v.spaces))
-    (sym (ap (λ (x : Spaces SpaceWaiting). data_marks x) (bundled_spaces _ next (list_any is_ack fs)) ∙ told_marks id (with_space v.spaces id (without_all (space_of v.spaces id) fs)))) (taken_marks id v.spaces fs)
+    (sym (ap (λ (x : Spaces SpaceWaiting). data_marks x) (bundled_spaces _ next (list_any is_ack fs)))) (taken_marks id v.spaces fs)
 
 -- a timer that has come was set for no later time
 pub came_by : (at now : ℕ) (d : Option ℕ) → d ≡ Some at → has_come d now ≡ true → at ≤ now

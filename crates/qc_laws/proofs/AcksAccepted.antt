@@ -24,7 +24,7 @@ use Rattle.qc_state.specs.Keys.{epoch_in}
 use Rattle.qc_state.specs.Forms.{number_space, is_early}
 use Rattle.qc_state.specs.Headline.{deeds_of, KnownBehind, AcksOnly, SealsKnown, AcksKnown, IsKept, EachAcksKnown}
 use Rattle.qc_state.specs.Life.{is_open}
-use Rattle.qc_state.specs.Moves.{Move, Clock, Ask, Take, Seal, Forget, Enter, Expect, Fail, Accept, Fix, Hear, Ack, Fire, Arm, Pace, Release, Begin, Skip, Come, Read, Write, Ready, Token, Learn, Want, Confirm, Establish, Tell, PeerClosesToo, PeerCloses, Owe, Shut, Raise, Give, Say, ReportReady, ReportConnected, ReportLost, ReportNotice, ReportNotices, ReportDrained, accepts, state_move, move_to, deeds_move, waiting_move, numbers_move, keys_move, life_move, MayMove, IsTold, told, arrival_of, Finish, Hand, Call, ReportStream, ReportStreams, told_to_streams, Post, ReportHeard, ReportAllHeard, Insert, Switch, Retire, Issue, Outlive}
+use Rattle.qc_state.specs.Moves.{Move, Clock, Ask, Take, Seal, Forget, Enter, Expect, Fail, Accept, Fix, Hear, Ack, Fire, Arm, Pace, Release, Begin, Skip, Come, Read, Write, Ready, Token, Learn, Want, Confirm, Establish, Tell, PeerClosesToo, PeerCloses, Owe, Shut, Raise, Give, Say, ReportReady, ReportConnected, ReportLost, ReportNotice, ReportNotices, ReportDrained, accepts, state_move, move_to, deeds_move, waiting_move, numbers_move, keys_move, life_move, MayMove, IsTold, told, arrival_of, Finish, Hand, Call, ReportStream, ReportStreams, told_to_streams, Post, ReportHeard, ReportAllHeard, Insert, Switch, Retire, Issue, Outlive, Hold, Spend}
 use Rattle.qc_state.specs.Numbers.{next_number}
 use Rattle.qc_state.specs.Offers.{packet_begun}
 use Rattle.qc_state.proofs.Probed.{begun_holds}
@@ -36,7 +36,7 @@ use Rattle.qc_state.specs.Receiving.{datagram_after}
 use Rattle.qc_state.specs.Timeouts.{timeout_after}
 use Rattle.qc_state.specs.Types.{Types, Meaning}
 use Rattle.qc_state.specs.View.{View, At}
-use Rattle.qc_state.specs.Waiting.{done_asked, ping_asked, waiting_without, close_begun, packet_told, untold, lost_in, packets_lost, acked_in, packets_acked, fired_in, probes_added, probe_spent, frames_again, all_again, came_in, packet_came, crypto_written, nothing_left, space_left, released, ack_released, bundle_next}
+use Rattle.qc_state.specs.Waiting.{done_asked, ping_asked, waiting_without, close_begun, packet_told, lost_in, packets_lost, acked_in, packets_acked, fired_in, probes_added, probe_spent, frames_again, all_again, came_in, packet_came, crypto_written, nothing_left, space_left, released, ack_released, bundle_next}
 use Rattle.qc_laws.proofs.AcksKnown.{acked_had, all_again_keeps, lost_keeps, received_has, KnownSince, known_more, since_more, known_append, since_append, only_more, without_all_keeps, carries_known}
 use Rattle.qc_recovery.specs.declared.calls.Fired.{Fired}
 use Rattle.qc_recovery.specs.declared.calls.Fired.TheVariants as fired
@@ -108,26 +108,14 @@ taken_kept Initial v fs n m = subst (Member n) (sym (without_all_keeps v.spaces.
 taken_kept Handshake v fs n m = subst (Member n) (sym (without_all_keeps v.spaces.handshake fs)) m
 taken_kept Data v fs n m = subst (Member n) (sym (without_all_keeps v.spaces.application fs)) m
 
--- a close begins to be owed
-begun_kept : (id : SpaceId) (v : Waiting) (b : Bool) (n : ℕ)
-    → IsKept id (if b then v else record v { spaces = record { initial = untold v.spaces.initial; handshake = untold v.spaces.handshake; application = untold v.spaces.application }; close_owed = true }) n → IsKept id v n
-begun_kept id v true n m = m
-begun_kept Initial v false n m = m
-begun_kept Handshake v false n m = m
-begun_kept Data v false n m = m
-
 -- a packet was sealed
 bundle_kept : (id : SpaceId) (v : Waiting) (next : ℕ) (b : Bool) (n : ℕ) → IsKept id (if b then record v { bundled = Some next } else v) n → IsKept id v n
 bundle_kept id v next true n m = m
 bundle_kept id v next false n m = m
 
-told_kept : (id space : SpaceId) (v : Waiting) (last : Bool) (n : ℕ) → IsKept id (packet_told v space last) n → IsKept id v n
-unfolding packet_told
-told_kept id space v last n m = same_kept id space v (record (space_of v.spaces space) { told = true }) refl n m
-
-sealed_kept : (id space : SpaceId) (v : Waiting) (last : Bool) (fs : List FrameValue) (next : ℕ) (n : ℕ) → IsKept id (bundle_next (packet_told v space last) fs next) n → IsKept id v n
-unfolding bundle_next
-sealed_kept id space v last fs next n m = told_kept id space v last n (bundle_kept id (packet_told v space last) next (list_any is_ack fs) n m)
+sealed_kept : (id : SpaceId) (v : Waiting) (last : Bool) (fs : List FrameValue) (next : ℕ) (n : ℕ) → IsKept id (bundle_next (packet_told v last) fs next) n → IsKept id v n
+unfolding bundle_next packet_told
+sealed_kept id v last fs next n m = bundle_kept id (packet_told v last) next (list_any is_ack fs) n m
 
 -- an ACK that was held back is owed
 released_kept : (id : SpaceId) (v : Waiting) (n : ℕ) → IsKept id (ack_released v) n → IsKept id v n
@@ -232,7 +220,7 @@ module _ {t : Types} where
   knows_move id (Take space fs) a h k = silent_knows id (Take space fs) a refl (same_kept id space a.state.waiting _ (without_all_keeps (space_of a.state.waiting.spaces space) fs))
   knows_move id (Seal time form n size fs) a h k =
       deed_knows id (Seal time form n size fs) (did.Sealed (number_space form) n (epoch_in a.state.keys form) (is_early form) fs) a refl (said_there id (number_space form) a.state.waiting fs k)
-      (sealed_kept id (number_space form) a.state.waiting (is_space (number_space form) a.state.keys.highest) fs (next_bundle time (estimate a.state.paths.current.kept.rtt) (peer_delay a.state.setup.peer)))
+      (sealed_kept id a.state.waiting (is_space (number_space form) a.state.keys.highest) fs (next_bundle time (estimate a.state.paths.current.kept.rtt) (peer_delay a.state.setup.peer)))
   knows_move id (Forget space) a h k = silent_knows id (Forget space) a refl (same_kept id space a.state.waiting _ refl)
   knows_move id (Enter space n v) a h k = deed_knows id (Enter space n v) _ a refl tt (λ n m. inr m)
   knows_move id (Expect token) a h k = silent_knows id (Expect token) a refl (λ n m. m)
@@ -261,11 +249,13 @@ module _ {t : Types} where
   knows_move id (Tell d) a h k = tell_knows id d a h
   knows_move id PeerClosesToo a h k = deed_knows id PeerClosesToo _ a refl tt (λ n m. m)
   knows_move id (PeerCloses time) a h k = deed_knows id (PeerCloses time) _ a refl tt (λ n m. m)
-  knows_move id Owe a h k = silent_knows id Owe a refl (begun_kept id a.state.waiting a.state.waiting.close_owed)
-  knows_move id (Shut time close) a h k = deed_knows id (Shut time close) _ a refl tt (begun_kept id a.state.waiting a.state.waiting.close_owed)
+  knows_move id Owe a h k = silent_knows id Owe a refl (λ n m. m)
+  knows_move id (Shut time close) a h k = deed_knows id (Shut time close) _ a refl tt (λ n m. m)
   knows_move id (Raise to) a h k = deed_knows id (Raise to) _ a refl tt (λ n m. m)
   knows_move id (Give why) a h k = deed_knows id (Give why) _ a refl tt (λ n m. m)
-  knows_move id (Finish bytes) a h k = silent_knows id (Finish bytes) a refl (λ n m. m)
+  knows_move id (Spend tokens) a h k = silent_knows id (Spend tokens) a refl (λ n m. m)
+  knows_move id (Hold until) a h k = silent_knows id (Hold until) a refl (λ n m. m)
+  knows_move id (Finish bytes control) a h k = silent_knows id (Finish bytes control) a refl (λ n m. m)
   knows_move id (Say q) a h k = deed_knows id (Say q) _ a refl tt (λ n m. m)
   knows_move id (Hand frame) a h k = handed_knows id frame a
   knows_move id (Insert new) a h k = deed_knows id (Insert new) _ a refl tt (λ n m. m)
@@ -330,7 +320,9 @@ module _ {t : Types} where
   sending_knows (Shut time close) s r = tt
   sending_knows (Raise to) s r = tt
   sending_knows (Give why) s r = tt
-  sending_knows (Finish bytes) s r = tt
+  sending_knows (Spend tokens) s r = tt
+  sending_knows (Hold until) s r = tt
+  sending_knows (Finish bytes control) s r = tt
   sending_knows (Say q) s r = tt
   sending_knows _ s r = absurd r
 
@@ -347,10 +339,10 @@ module _ {t : Types} where
       (knows_move id (Seal time form (next_number a.state.numbers (number_space form)) (packet_size a.state form fs) fs) b (refl, may.closes, may.alive, may.keyed) said)
 
   -- a transmit
-  knows_transmit : (id : SpaceId) (m : Meaning t) (time : ℕ) (choice : Choice) (a : At t) → MayTransmit m time choice a → Knows id a (transmit_after m time choice a)
-  knows_transmit id m time choice a may =
+  knows_transmit : (id : SpaceId) (m : Meaning t) (time asked : ℕ) (choice : Choice) (a : At t) → MayTransmit m time asked choice a → Knows id a (transmit_after m time asked choice a)
+  knows_transmit id m time asked choice a may =
       holds_transmit (Knows id) (knows_here id) (knows_next id) (λ x sends b h. knows_move id x b h (sending_knows x b.state sends))
-      (λ at_time space fs b h. knows_packet id at_time space fs b h) m time choice a may
+      (λ at_time space fs b h. knows_packet id at_time space fs b h) m time asked choice a may
 
   -- the application closes, or has closed before
   closed_by : (id : SpaceId) (time : ℕ) (close : Close) (a : At t) (b : Bool) → is_open a.state.life.state ≡ b → Knows id a (if b then move_to (Shut time close) a else a)
@@ -384,10 +376,10 @@ module _ {t : Types} where
   unfolding IsAllowed input_after close_after MayMove
   knows_input id m (input.Datagram time remote ecn bytes) choice a h = knows_datagram id m (record { time = time; remote = remote; mark = ecn }) bytes a
   knows_input id m (input.Timeout time) choice a h = knows_timeout id m time a
-  knows_input id m (input.Transmit time max) choice a h = knows_transmit id m time choice a h
+  knows_input id m (input.Transmit time max) choice a h = knows_transmit id m time max choice a h
   knows_input id m (input.Close time code reason) choice a h = closed_by id time _ a _ refl
   knows_input id m (input.Ping time) choice a h = knows_move id (Ask a.state.keys.highest) a tt tt
-  knows_input id m (input.SendDatagram time body) choice a h = knows_move id (Post (datagrams.Sent (datagram_limit a.state) body)) a refl tt
+  knows_input id m (input.SendDatagram time body) choice a h = knows_move id (Post (datagrams.Sent (datagram_limit a.state) true body)) a refl tt
   knows_input id m (input.RecvDatagram time) choice a h = knows_move id (Post datagrams.Taken) a refl tt
   knows_input id m (input.Identifiers time given) choice a h = knows_move id (Issue time given) a h tt
   knows_input id m i choice a h = called_input (Knows id) (knows_here id) (knows_next id) (λ x b may. knows_move id (Call x) b may tt) i choice.read a h

@@ -25,7 +25,7 @@ use Rattle.qc_state.specs.declared.life.Close.TheVariants.{Connection, Applicati
 use Rattle.qc_state.specs.declared.waiting.SpaceWaiting.{SpaceWaiting}
 use Rattle.qc_state.specs.Headline.{KnownBehind, AcksOnly, SealsKnown, AcksKnown, IsKept}
 use Rattle.qc_state.specs.Life.{is_closed}
-use Rattle.qc_state.specs.Sending.{Carries, Closes, application_close, close_frame, closing_frame, told_close, padding_of, padded}
+use Rattle.qc_state.specs.Sending.{Carries, Closes, application_close, close_frame, closing_frame, told_close}
 use Rattle.qc_state.specs.Spaces.{space_of}
 use Rattle.qc_state.specs.Types.{Types}
 use Rattle.qc_state.specs.View.{View}
@@ -241,6 +241,10 @@ unfolding without_all
 without_all_keeps w [] = refl
 without_all_keeps w (f ∷ fs) = without_all_keeps (without w f) fs ∙ without_keeps w f
 
+-- frames with PADDING behind them acknowledge no more
+padded_known : (K : ℕ → Type 0) (n : ℕ) (fs gs : List FrameValue) → fs ≡ gs ++ replicate n frames.Padding → AcksOnly K gs → AcksOnly K fs
+padded_known K n fs gs is known = subst (AcksOnly K) (sym is) (only_append K gs (replicate n frames.Padding) known (padding_only K n))
+
 module _ {t : Types} where
   -- a frame that waits in a space acknowledges what is kept there
   first_known : (time : ℕ) (s : View t) (id : SpaceId) (f : FrameValue) (fs : List FrameValue) → Waits time s id f → AcksOnly (IsKept id s.waiting) fs → AcksOnly (IsKept id s.waiting) (f ∷ fs)
@@ -265,14 +269,9 @@ module _ {t : Types} where
       let K : ℕ → Type 0 = λ k. Member k w.acks.ranges in
       subst (AcksOnly K) (sym is) (only_append K acks (closing_frame id kept s.life ∷ []) (part_known time w _ acks _ part) (close_only K (is_closed s.life.state) id kept s.life.close))
 
-  -- frames with PADDING behind them acknowledge no more
-  padded_known : (K : ℕ → Type 0) (s : View t) (form : Form) (fs gs : List FrameValue) → fs ≡ padded s form gs → AcksOnly K gs → AcksOnly K fs
-  unfolding padded
-  padded_known K s form fs gs is known = subst (AcksOnly K) (sym is) (only_append K gs (replicate (padding_of s form gs) frames.Padding) known (padding_only K (padding_of s form gs)))
-
   -- what a packet carries acknowledges what is kept in its space
   pub carries_known : (closing : Bool) (time : ℕ) (s : View t) (form : Form) (room : ℕ) (fs : List FrameValue) → Carries closing time s form room fs → AcksOnly (IsKept (number_space form) s.waiting) fs
-  carries_known closing time s form room fs (Carries.a_close owed gs closes is) =
-      padded_known (IsKept (number_space form) s.waiting) s form fs gs is (closes_known time s (number_space form) room gs closes)
-  carries_known closing time s form room fs (Carries.what_waits free gs wait some is) =
-      padded_known (IsKept (number_space form) s.waiting) s form fs gs is (wait_known time s (number_space form) gs wait)
+  carries_known closing time s form room fs (Carries.a_close owed gs n closes is) =
+      padded_known (IsKept (number_space form) s.waiting) n fs gs is (closes_known time s (number_space form) room gs closes)
+  carries_known closing time s form room fs (Carries.what_waits free gs n wait is) =
+      padded_known (IsKept (number_space form) s.waiting) n fs gs is (wait_known time s (number_space form) gs wait)

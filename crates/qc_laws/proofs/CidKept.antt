@@ -39,7 +39,7 @@ use Rattle.qc_state.specs.Ids.{active_limit, first_error, insert_stop, sealed_ci
 use Rattle.qc_state.specs.Keys.{epoch_in}
 use Rattle.qc_state.specs.Life.{all_heard_reported, connected_reported, data_ready, drained_reported, identifiers_wanted, is_open, life_closed, life_drained, life_established, life_raised, lost_reported, notices_reported, rank_of, ready_reported, reason_given, token_learned}
 use Rattle.qc_state.specs.Lower.{datagrams_stepped, events_told, frames_sealed as frames_taken, ids_stepped, streams_stepped}
-use Rattle.qc_state.specs.Moves.{Accept, Ask, Call, Enter, Establish, Fire, Fix, Give, Hand, Insert, Issue, MayMove, Move, Owe, PeerCloses, PeerClosesToo, Post, Raise, ReportAllHeard, ReportConnected, ReportDrained, ReportHeard, ReportLost, ReportNotice, ReportNotices, ReportReady, Retire, Seal, Shut, Switch, Take, Tell, deeds_move, keys_move, life_move, lower_move, move_to, state_move}
+use Rattle.qc_state.specs.Moves.{Accept, Ask, Call, Enter, Establish, Finish, Fire, Fix, Give, Hand, Insert, Issue, MayMove, Move, Owe, PeerCloses, PeerClosesToo, Post, Raise, ReportAllHeard, ReportConnected, ReportDrained, ReportHeard, ReportLost, ReportNotice, ReportNotices, ReportReady, Retire, Seal, Shut, Spend, Switch, Take, Tell, deeds_move, keys_move, life_move, lower_move, move_to, state_move}
 use Rattle.qc_state.specs.Numbers.{next_number}
 use Rattle.qc_state.specs.Paths.{is_blocked}
 use Rattle.qc_state.specs.Progress.{progress_after}
@@ -47,7 +47,7 @@ use Rattle.qc_state.specs.Receiving.{accepted_after, admitted_after, datagram_af
 use Rattle.qc_state.specs.Recovering.{fired_by}
 use Rattle.qc_state.specs.Run.{IsAllowed, IsStep, Run, began, called, datagram_limit, input_after, reported, time_of}
 use Rattle.qc_state.specs.Run as run
-use Rattle.qc_state.specs.Sending.{Choice, packet_size}
+use Rattle.qc_state.specs.Sending.{Choice, packet_size, spent_after, told_sent}
 use Rattle.qc_state.specs.Stopping.{given_after, stopped_after}
 use Rattle.qc_state.specs.Types.{Types, Meaning}
 use Rattle.qc_state.specs.Verdicts.{verdict_of}
@@ -59,7 +59,7 @@ use Rattle.qc_state.proofs.PacketMoves.{IsProgress, OpenPacket, progress_in_pack
 use Rattle.qc_state.proofs.Progresses.{holds_progress}
 use Rattle.qc_state.proofs.ReceivedMoves.{IsEnding, IsOutside, close_for}
 use Rattle.qc_state.proofs.Telling.{told_appends}
-use Rattle.qc_state.proofs.Transmitted.{IsSealable, IsSending, holds_transmit}
+use Rattle.qc_state.proofs.Transmitted.{IsSealable, IsSending, transmit_told, untold_sending}
 use Rattle.qc_datagrams.specs.Steps as datagrams
 use Rattle.qc_laws.specs.CidLaws.{AllRetireBelow, RetiresBelow}
 use Rattle.qc_laws.specs.IdLaws.{given_to_ids}
@@ -373,15 +373,18 @@ module _ {t : Types} (m : Meaning t) where
   closed_by time kept a false = here a
 
   input_keeps : (i : Input) (choice : Choice) (a : At t) → IsAllowed m i choice a → Keeps a (input_after m i choice a)
-  unfolding IsAllowed input_after run.close_after
+  unfolding IsAllowed input_after run.close_after spent_after told_sent
   input_keeps (input.Datagram time remote ecn bytes) choice a h = datagram_keeps (record { time = time; remote = remote; mark = ecn }) bytes a
   input_keeps (input.Timeout time) choice a h =
       holds_expired m Keeps here next (λ at_time b. move (Fire (fired_by m at_time b.state)) b (record { time = at_time; is = refl }) tt tt)
       (λ x e b may. move x b (expiry_known m x b.state e) (expiry_none x e) (may_rise x b.state may)) time a
-  input_keeps (input.Transmit time max) choice a h = holds_transmit Keeps here next (λ x r b may. move x b (sending_known m x b.state r) (sending_none x r) (may_rise x b.state may)) seal_keeps m time choice a h
+  input_keeps (input.Transmit time max) choice a h =
+      transmit_told m Keeps here next (λ x r b may. move x b (sending_known m x b.state r) (sending_none x (untold_sending x r)) (may_rise x b.state may))
+      (λ at_time size b. move (Spend _) b (record { time = at_time; size = size; is = refl }) tt tt)
+      (λ at_time batch b. move (Finish batch.total _) b (record { time = at_time; bytes = batch.total; last = batch.last; is = refl }) tt tt) seal_keeps time max choice a h
   input_keeps (input.Close time code reason) choice a h = closed_by time _ a (is_open a.state.life.state)
   input_keeps (input.Ping time) choice a h = move (Ask a.state.keys.highest) a tt tt tt
-  input_keeps (input.SendDatagram time body) choice a h = move (Post (datagrams.Sent (datagram_limit a.state) body)) a tt tt tt
+  input_keeps (input.SendDatagram time body) choice a h = move (Post (datagrams.Sent (datagram_limit a.state) true body)) a tt tt tt
   input_keeps (input.RecvDatagram time) choice a h = move (Post datagrams.Taken) a tt tt tt
   input_keeps (input.Identifiers time ids) choice a h = move (Issue time ids) a tt tt tt
   input_keeps i choice a h = called_input Keeps here next (λ x b may. move (Call x) b tt tt tt) i choice.read a h

@@ -48,11 +48,11 @@ use Rattle.qc_state.specs.Ids.{active_limit, again_ids, fired_ids, preferred_ste
 use Rattle.qc_state.specs.Keys.{DataKeys, HandshakeKeys, NewKeys, NoKeys, count_one, epoch_in, failure_counted, key_used, keys_dropped, keys_given, ring_used}
 use Rattle.qc_state.specs.Life.{data_ready, identifiers_wanted, is_handshake, life_closed, life_drained, life_established, life_raised, reason_given, token_learned}
 use Rattle.qc_state.specs.Lower.{bytes_came, datagrams_stepped, flight_dropped, frame_handed, frames_sealed as frames_taken, ids_stepped, limits_learned, packet_flown, packets_settled, session_read, session_wrote, streams_closed, streams_stepped, timer_fired}
-use Rattle.qc_state.specs.Moves.{Accept, Ack, Arm, Begin, Clock, Establish, Expect, Fail, Finish, Fire, Fix, Forget, Give, Hand, Hear, Insert, IsTold as MayBeTold, Issue, Learn, MayMove, Move, Outlive, PeerCloses, PeerClosesToo, Raise, ReportAllHeard, ReportConnected, ReportDrained, ReportHeard, ReportLost, ReportNotice, ReportNotices, ReportReady, Retire, Say, Seal, Shut, Skip, Switch, Take, Tell, Want, Write, deeds_move, keys_move, life_move, lower_move, move_to, paths_move, setup_move, state_move}
+use Rattle.qc_state.specs.Moves.{Accept, Ack, Arm, Begin, Clock, Establish, Expect, Fail, Finish, Fire, Fix, Forget, Give, Hand, Hear, Insert, IsTold as MayBeTold, Issue, Learn, MayMove, Move, Outlive, PeerCloses, PeerClosesToo, Raise, ReportAllHeard, ReportConnected, ReportDrained, ReportHeard, ReportLost, ReportNotice, ReportNotices, ReportReady, Retire, Say, Seal, Shut, Skip, Spend, Switch, Take, Tell, Want, Write, deeds_move, keys_move, life_move, lower_move, move_to, paths_move, setup_move, state_move}
 use Rattle.qc_state.specs.Moves as moves
 use Rattle.qc_state.specs.Numbers.{next_number, received_number}
 use Rattle.qc_state.specs.Offers.{begun_ids, oldest_in, probe_ids, wants_sending}
-use Rattle.qc_state.specs.Paths.{path_accepted, path_idle, path_kept, path_named, path_received, path_sent, path_spun, peer_fixed, spun_by}
+use Rattle.qc_state.specs.Paths.{path_accepted, path_kept, path_named, path_received, path_sent, path_spun, peer_fixed, spun_by}
 use Rattle.qc_state.specs.Recovering.{fired_by, settled_by}
 use Rattle.qc_state.specs.Sending.{packet_size}
 use Rattle.qc_state.specs.Setup.{packet_drawn, parameters_known, token_expected, word_drawn}
@@ -60,6 +60,7 @@ use Rattle.qc_state.specs.Spaces.{is_space, space_of}
 use Rattle.qc_state.specs.Types.{Types, Meaning}
 use Rattle.qc_state.specs.View.{View, At}
 use Rattle.qc_state.specs.Waiting.{probe_spent}
+use Rattle.qc_state.proofs.Quieted.{quiet_chosen}
 use Rattle.qc_state.proofs.Probed.{begun_streams}
 use Rattle.qc_state.proofs.Telling.{told_appends}
 use Rattle.qc_state.proofs.Transmitted.{IsSealable}
@@ -134,9 +135,10 @@ IsOther _ = Unit {0}
 module _ {t : Types} where
   -- the id that the peer chose stays, but for the move with which it chooses one, and so do its parameters
   other_peer : (x : Move t) (s : View t) → IsOther x → (state_move x s).paths.peer_cid ≡ s.paths.peer_cid
-  unfolding state_move paths_move path_idle path_kept path_named path_received path_sent
+  unfolding state_move paths_move path_kept path_named path_received path_sent
   other_peer (Fix cid) s other = absurd other
-  other_peer (Finish bytes) s other = refl
+  other_peer (Finish bytes control) s other = refl
+  other_peer (Spend tokens) s other = refl
   other_peer (Insert new) s other = refl
   other_peer Switch s other = refl
   other_peer (Learn p) s other = absurd other
@@ -145,7 +147,7 @@ module _ {t : Types} where
   other_peer (Forget id) s other = refl
   other_peer (Ack id n r) s other = refl
   other_peer (Fire r) s other = refl
-  other_peer (Say q) s other = refl
+  other_peer (Say q) s other = quiet_chosen s.paths q
   other_peer _ s other = refl
 
   other_parameters : (x : Move t) (s : View t) → IsOther x → (state_move x s).setup.peer ≡ s.setup.peer

@@ -37,7 +37,7 @@ use Rattle.qc_state.specs.Keys.{unmasking_key}
 use Rattle.qc_state.specs.Forms.{number_space}
 use Rattle.qc_state.specs.Ids.{active_limit, insert_stop}
 use Rattle.qc_state.specs.Life.{is_handshake, is_open, life_established}
-use Rattle.qc_state.specs.Moves.{Accept, Ask, Call, Clock, Confirm, Enter, Establish, Fire, Fix, Forget, Insert, Issue, Learn, MayMove, Move, Owe, PeerClosesToo, Post, Seal, Shut, Switch, Take, Tell, Token, Want, Write, armed_after, keys_move, life_move, lower_move, move_to, paths_move, setup_move, state_move}
+use Rattle.qc_state.specs.Moves.{Accept, Ask, Call, Clock, Confirm, Enter, Establish, Finish, Fire, Fix, Forget, Insert, Issue, Learn, MayMove, Move, Owe, PeerClosesToo, Post, Seal, Shut, Spend, Switch, Take, Tell, Token, Want, Write, armed_after, keys_move, life_move, lower_move, move_to, paths_move, setup_move, state_move}
 use Rattle.qc_state.specs.Numbers.{next_number}
 use Rattle.qc_state.specs.Opening.{opened_at, opened_form, opened_in, opening_of}
 use Rattle.qc_state.specs.Paths.{is_blocked, peer_fixed}
@@ -45,7 +45,7 @@ use Rattle.qc_state.specs.Receiving.{accepted_after, admitted_after, datagram_af
 use Rattle.qc_state.specs.Progress.{ended_after, ids_fit, is_end, is_server_start, is_written, learned_after, learned_with, over_after, parameters_and, progress_after, token_after, write_after, writes_after, written_after}
 use Rattle.qc_state.specs.Recovering.{fired_by}
 use Rattle.qc_state.specs.Run.{IsAllowed, close_after, datagram_limit, input_after}
-use Rattle.qc_state.specs.Sending.{Choice, packet_size}
+use Rattle.qc_state.specs.Sending.{Choice, packet_size, spent_after, told_sent}
 use Rattle.qc_state.specs.Setup.{parameters_known}
 use Rattle.qc_state.specs.Stopping.{missing_parameters, parameter_error, stopped_after}
 use Rattle.qc_state.specs.Types.{Types, Meaning}
@@ -56,7 +56,7 @@ use Rattle.qc_state.proofs.Expired.{IsExpiry, holds_expired}
 use Rattle.qc_state.proofs.OpenPackets.{holds_packet, packet_received}
 use Rattle.qc_state.proofs.PacketMoves.{OpenPacket}
 use Rattle.qc_state.proofs.ReceivedMoves.{IsEnding, IsOutside}
-use Rattle.qc_state.proofs.Transmitted.{IsSealable, IsSending, holds_transmit}
+use Rattle.qc_state.proofs.Transmitted.{IsSealable, IsSending, transmit_told, untold_sending}
 use Rattle.qc_datagrams.specs.Steps as datagrams
 use Rattle.qc_laws.proofs.CidMoves.{AllGiven, Calm, Early, GivesIssued, HoldsAt, IsOther, IsPlain, IsToldSo, Later, Leads, Once, Told, calm_fix, calm_here, calm_move, calm_next, calm_once, calm_seal, fix_leads, later_here, later_learn, later_move, later_next, leads_here, leads_next, may_tell, packet_leads, plain_leads, plain_other, told_here, told_move, told_next}
 use Rattle.qc_laws.proofs.CidQueues.{AllIssued}
@@ -511,16 +511,19 @@ module _ {t : Types} (m : Meaning t) (first : List ℕ) (given : List (List ℕ)
   InputIssues _ = Unit {0}
 
   pub input_leads : (i : Input) (choice : Choice) (a : At t) → InputIssues i → IsAllowed m i choice a → OnceLeads a (input_after m i choice a)
-  unfolding IsAllowed input_after close_after
+  unfolding IsAllowed input_after close_after spent_after told_sent
   input_leads (input.Datagram time remote ecn bytes) choice a issued h = datagram_leads (record { time = time; remote = remote; mark = ecn }) bytes a
   input_leads (input.Timeout time) choice a issued h =
       holds_expired m OnceLeads leads_here_once leads_next_once (λ at_time b. plain (Fire (fired_by m at_time b.state)) b tt (record { time = at_time; is = refl }) tt tt)
       (λ x e b may. plain x b (expiry_plain x e) (expiry_known m x b.state e) (may_tell x b.state may) (expiry_issued x e)) time a
   input_leads (input.Transmit time max) choice a issued h =
-      holds_transmit OnceLeads leads_here_once leads_next_once (λ x r b may. plain x b (sending_plain x r) (sending_known m x b.state r) (may_tell x b.state may) (sending_issued x r)) seal m time choice a h
+      transmit_told m OnceLeads leads_here_once leads_next_once
+      (λ x r b may. plain x b (sending_plain x (untold_sending x r)) (sending_known m x b.state r) (may_tell x b.state may) (sending_issued x (untold_sending x r)))
+      (λ at_time size b. plain (Spend _) b tt (record { time = at_time; size = size; is = refl }) tt tt)
+      (λ at_time batch b. plain (Finish batch.total _) b tt (record { time = at_time; bytes = batch.total; last = batch.last; is = refl }) tt tt) seal time max choice a h
   input_leads (input.Close time code reason) choice a issued h = closed_by time _ a (is_open a.state.life.state)
   input_leads (input.Ping time) choice a issued h = plain (Ask a.state.keys.highest) a tt tt tt tt
-  input_leads (input.SendDatagram time body) choice a issued h = plain (Post (datagrams.Sent (datagram_limit a.state) body)) a tt tt tt tt
+  input_leads (input.SendDatagram time body) choice a issued h = plain (Post (datagrams.Sent (datagram_limit a.state) true body)) a tt tt tt tt
   input_leads (input.RecvDatagram time) choice a issued h = plain (Post datagrams.Taken) a tt tt tt tt
   input_leads (input.Identifiers time ids) choice a issued h = plain (Issue time ids) a tt tt tt issued
   input_leads i choice a issued h = called_input OnceLeads leads_here_once leads_next_once (λ x b may. plain (Call x) b tt tt tt tt) i choice.read a h

@@ -118,9 +118,9 @@ module _ {t : Types} where
       ap (λ (v : View t). v.timers.greatest) is ∙ holds_timeout Stands stands_here stands_next (λ x timed b may. stands_move x b may) m time (began s time) ∙ began_clock s time
 
   -- a transmit
-  pub transmit_clock : (m : Meaning t) (time : ℕ) (s : View t) (b : At t) (sent : Option Transmit) (buffer : List ℕ) → Transmits m time (began s time) b sent buffer → b.state.timers.greatest ≡ max s.timers.greatest time
-  transmit_clock m time s b sent buffer h =
-      ap (λ (x : At t). x.state.timers.greatest) h.leads ∙ (told_transmit Initial m time h.choice (began s time) h.may).clock ∙ began_clock s time
+  pub transmit_clock : (m : Meaning t) (time asked : ℕ) (s : View t) (b : At t) (sent : Option Transmit) (buffer : List ℕ) → Transmits m time asked (began s time) b sent buffer → b.state.timers.greatest ≡ max s.timers.greatest time
+  transmit_clock m time asked s b sent buffer h =
+      ap (λ (x : At t). x.state.timers.greatest) h.leads ∙ (told_transmit Initial m time asked h.choice (began s time) h.may).clock ∙ began_clock s time
 
   -- a close
   pub close_clock : (time code : ℕ) (reason : List ℕ) (s s' : View t) → s' ≡ (close_after time code reason (began s time)).state → s'.timers.greatest ≡ max s.timers.greatest time

@@ -57,7 +57,7 @@ use Rattle.qc_laws.proofs.Recovers.{kept_same, move_parts, recovers_next, seal_f
 use Rattle.qc_state.proofs.Telling.{told_appends}
 use Rattle.qc_state.proofs.Transmitted.{IsSealable}
 use Rattle.qc_laws.proofs.CryptoBuffers.{More, crypto_more_holds, crypto_more_sent, lost_in_more, more_here, more_next, more_same}
-use Rattle.qc_laws.proofs.CryptoPlaces.{FiresIn, ack_flight, ack_other, acked_crypto, apart_lower, apart_values, bundled_spaces, came_crypto, closed_crypto, dropped_highest, dropped_keys, failed_keys, fire_kept, fired_flight, flown_lower, given_above, given_keys, given_open, here_values, in_other, in_same, left_counts, more_bytes, narrow, none_written, not_above, put_again, put_crypto, put_other, rank_other, same_or, sealed_apart, sealed_stream, settled_bytes, settled_other, settled_stream, used_highest, used_keys, written_same}
+use Rattle.qc_laws.proofs.CryptoPlaces.{FiresIn, ack_flight, ack_other, acked_crypto, apart_lower, apart_values, bundled_spaces, came_crypto, dropped_highest, dropped_keys, failed_keys, fire_kept, fired_flight, flown_lower, given_above, given_keys, given_open, here_values, in_other, in_same, left_counts, more_bytes, narrow, none_written, not_above, put_again, put_crypto, put_other, rank_other, same_or, sealed_apart, sealed_stream, settled_bytes, settled_other, settled_stream, used_highest, used_keys, written_same}
 use Rattle.qc_state.specs.Datagrams.{tells_datagram}
 use Rattle.qc_laws.proofs.StreamCalls.{heard_state, named_state, retired_state}
 use Rattle.qc_cids.specs.Cids.{asks_one, next_token, token_by}
@@ -108,8 +108,8 @@ module _ {t : Types} where
       ∙ put_crypto id space s.waiting.spaces (came_in (is_space space «Data») (arrived n (numbers.came_in s.numbers space)) (arrival_of time n e g) g.mark (space_of s.waiting.spaces space)) refl
   still_crypto Confirm s id h = put_crypto id «Data» s.waiting.spaces (record (space_of s.waiting.spaces «Data») { done = true }) refl
   still_crypto Release s id h = put_crypto id «Data» s.waiting.spaces (released (space_of s.waiting.spaces «Data»)) refl
-  still_crypto Owe s id h = closed_crypto s.waiting id s.waiting.close_owed
-  still_crypto (Shut time close) s id h = closed_crypto s.waiting id s.waiting.close_owed
+  still_crypto Owe s id h = refl
+  still_crypto (Shut time close) s id h = refl
   still_crypto (Clock time) s id h = absurd h
   still_crypto (Take space fs) s id h = absurd h
   still_crypto (Seal time form n size fs) s id h = absurd h
@@ -321,7 +321,7 @@ module _ {t : Types} where
       narrow id (before ++ []) s.keys.highest _ (is_open s.life.state) (has_keys s.keys id) _ _ _ (used_highest s.keys form n) (used_keys s.keys form n id)
       (subst (λ (b : Buffer). CryptoHolds id (before ++ []) s.keys.highest (is_open s.life.state) (has_keys s.keys id) b (recovery.space_of id (if s.waiting.close_owed then taken else packet_flown taken (number_space form) n (flown_packet time size fs)).recovery).flight)
       (sym (ap (λ (v : Spaces SpaceWaiting). (space_of v id).crypto) (bundled_spaces _ _ (list_any is_ack fs))
-      ∙ subst (λ (x : SpaceId). let u : Spaces SpaceWaiting = with_space s.waiting.spaces x (without_all (space_of s.waiting.spaces x) fs) in (space_of (with_space u x (record (space_of u x) { told = true })) id).crypto ≡ (without_all (space_of s.waiting.spaces id) fs).crypto) is (sealed_stream id s.waiting.spaces fs)))
+      ∙ subst (λ (x : SpaceId). (space_of (with_space s.waiting.spaces x (without_all (space_of s.waiting.spaces x) fs)) id).crypto ≡ (without_all (space_of s.waiting.spaces id) fs).crypto) is (sealed_stream id s.waiting.spaces fs)))
       (here_values id before s.keys.highest (is_open s.life.state) (has_keys s.keys id) s.waiting.close_owed (space_of s.waiting.spaces id) (flight_of id s) _ n (flown_packet time size fs) fs refl unowed
       (λ no. flown_lower s.waiting.close_owed taken (number_space form) n (flown_packet time size fs) id no is) h))
   seal_kept time n size form fs s id before (inr other) unowed h =
@@ -341,6 +341,8 @@ module _ {C : Type 0} where
       ap (λ (es : List Entry). front ++ es) (acked_append id xs ys) ∙ sym (append_assoc front (laws.acked_in id xs) (laws.acked_in id ys))
   acked_append id (laws.Fired after ∷ xs) ys = acked_append id xs ys
   acked_append id (laws.Dropped space ∷ xs) ys = acked_append id xs ys
+  acked_append id (laws.Spent tokens ∷ xs) ys = acked_append id xs ys
+  acked_append id (laws.Told control ∷ xs) ys = acked_append id xs ys
 
 owed_acked : (C : Type 0) (id : SpaceId) (owed : Bool) (space : SpaceId) (n : ℕ) (packet : SentPacket) → laws.acked_in {C = C} id (if owed then [] else laws.Sent space n packet ∷ []) ≡ []
 owed_acked C id true space n packet = refl

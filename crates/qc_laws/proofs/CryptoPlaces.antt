@@ -33,7 +33,7 @@ use Rattle.qc_state.specs.declared.waiting.Waiting.{Waiting}
 use Rattle.qc_laws.specs.CryptoLaws.{BytesHold, CryptoHolds, carries, is_awaited, is_carried}
 use Rattle.qc_state.specs.Flight.{kept_frames}
 use Rattle.qc_state.specs.Spaces.{is_space, space_of, with_space}
-use Rattle.qc_state.specs.Waiting.{acked_in, all_again, all_confirmed, confirmed, crypto_more, fired_in, lost_in, marks_begun, nothing_left, packets_lost, probes_added, untold, without_all}
+use Rattle.qc_state.specs.Waiting.{acked_in, all_again, all_confirmed, confirmed, crypto_more, fired_in, lost_in, marks_begun, nothing_left, packets_lost, probes_added, without_all}
 use Rattle.qc_base.specs.Time.{plus}
 use Rattle.qc_frame.specs.declared.frames.FrameOf.TheVariants as frames
 use Rattle.qc_state.specs.declared.keys.KeyGroup.{KeyGroup}
@@ -184,12 +184,6 @@ came_crypto mark v Initial = refl
 came_crypto mark v Handshake = refl
 came_crypto mark v Data = refl
 
-pub closed_crypto : (v : Waiting) (id : SpaceId) (b : Bool) → (space_of (if b then v else record v { spaces = record { initial = untold v.spaces.initial; handshake = untold v.spaces.handshake; application = untold v.spaces.application }; close_owed = true }).spaces id).crypto ≡ (space_of v.spaces id).crypto
-closed_crypto v id true = refl
-closed_crypto v Initial false = refl
-closed_crypto v Handshake false = refl
-closed_crypto v Data false = refl
-
 pub given_open : (v : Life) (why : ConnectionError) (b : Bool) → (if b then record v { reason = Some why; lost = Some why } else v).state ≡ v.state
 given_open v why true = refl
 given_open v why false = refl
@@ -249,17 +243,14 @@ pub bundled_spaces : (v : Waiting) (next : ℕ) (b : Bool) → (if b then record
 bundled_spaces v next true = refl
 bundled_spaces v next false = refl
 
-pub sealed_stream : (id : SpaceId) (v : Spaces SpaceWaiting) (fs : List FrameValue) → let u : Spaces SpaceWaiting = with_space v id (without_all (space_of v id) fs) in
-    (space_of (with_space u id (record (space_of u id) { told = true })) id).crypto ≡ (without_all (space_of v id) fs).crypto
+pub sealed_stream : (id : SpaceId) (v : Spaces SpaceWaiting) (fs : List FrameValue) → (space_of (with_space v id (without_all (space_of v id) fs)) id).crypto ≡ (without_all (space_of v id) fs).crypto
 sealed_stream Initial v fs = refl
 sealed_stream Handshake v fs = refl
 sealed_stream Data v fs = refl
 
-pub sealed_apart : (id space : SpaceId) (v : Spaces SpaceWaiting) (fs : List FrameValue) → is_space id space ≡ false → let u : Spaces SpaceWaiting = with_space v space (without_all (space_of v space) fs) in
-    (space_of (with_space u space (record (space_of u space) { told = true })) id).crypto ≡ (space_of v id).crypto
-sealed_apart id space v fs h =
-    let u : Spaces SpaceWaiting = with_space v space (without_all (space_of v space) fs) in
-    ap (λ (w : SpaceWaiting). w.crypto) (put_other id space u (record (space_of u space) { told = true }) h ∙ put_other id space v (without_all (space_of v space) fs) h)
+pub sealed_apart : (id space : SpaceId) (v : Spaces SpaceWaiting) (fs : List FrameValue) → is_space id space ≡ false →
+    (space_of (with_space v space (without_all (space_of v space) fs)) id).crypto ≡ (space_of v id).crypto
+sealed_apart id space v fs h = ap (λ (w : SpaceWaiting). w.crypto) (put_other id space v (without_all (space_of v space) fs) h)
 
 -- what is in flight
 pub flown_here : (id : SpaceId) (n : ℕ) (packet : SentPacket) (r : Recovery) → (recovery.space_of id (sent_after id n packet r)).flight ≡ (recovery.space_of id r).flight ++ (n, packet) ∷ []

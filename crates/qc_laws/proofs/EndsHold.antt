@@ -20,14 +20,14 @@ use Rattle.qc_state.specs.Acks.{is_ack}
 use Rattle.qc_laws.specs.EndLaws.{EndHolds, Ends, NoTimer}
 use Rattle.qc_state.specs.Forms.{number_space}
 use Rattle.qc_state.specs.Life.{connected_reported, data_ready, drained_reported, identifiers_wanted, is_closed, is_drained, is_open, life_closed, life_drained, life_established, life_raised, lost_reported, rank_of, ready_reported, reason_given, token_learned, notice_reported, notices_reported, all_heard_reported}
-use Rattle.qc_state.specs.Moves.{Accept, Ack, Arm, Ask, Begin, Clock, Come, Confirm, PeerClosesToo, Enter, Establish, Expect, Fail, Finish, Fire, Fix, Forget, Give, Hear, IsArmed, Learn, PeerCloses, MayMove, Move, Owe, Pace, Raise, Read, Ready, Release, ReportConnected, ReportDrained, ReportLost, ReportReady, ReportNotice, ReportNotices, Say, Seal, Shut, Skip, Take, Tell, Token, Want, Write, keys_move, life_move, move_to, numbers_move, state_move, timers_move, waiting_move, Call, Hand, ReportStream, ReportStreams, Post, ReportHeard, ReportAllHeard, Insert, Switch, Retire, Issue, Outlive}
+use Rattle.qc_state.specs.Moves.{Accept, Ack, Arm, Ask, Begin, Clock, Come, Confirm, PeerClosesToo, Enter, Establish, Expect, Fail, Finish, Fire, Fix, Forget, Give, Hear, IsArmed, Learn, PeerCloses, MayMove, Move, Owe, Pace, Raise, Read, Ready, Release, ReportConnected, ReportDrained, ReportLost, ReportReady, ReportNotice, ReportNotices, Say, Seal, Shut, Skip, Take, Tell, Token, Want, Write, keys_move, life_move, move_to, numbers_move, state_move, timers_move, waiting_move, Call, Hand, ReportStream, ReportStreams, Post, ReportHeard, ReportAllHeard, Insert, Switch, Retire, Issue, Outlive, Hold, Spend}
 use Rattle.qc_state.specs.Numbers.{next_number}
 use Rattle.qc_state.specs.Offers.{packet_begun}
 use Rattle.qc_state.specs.Recovering.{loss_time, probe_timeout_now}
 use Rattle.qc_state.specs.Run.{IsStep, Run, began, called, input_after, reported, step_after, time_of}
 use Rattle.qc_state.specs.Sending.{packet_size}
 use Rattle.qc_state.specs.Setup.{idle_limit_now}
-use Rattle.qc_state.specs.Timers.{clock_set, timers_acking, timers_armed, timers_closing, timers_paced, timers_released, timers_sealed, timers_stopped, timers_issued, timers_outlived}
+use Rattle.qc_state.specs.Timers.{clock_set, timers_acking, timers_armed, timers_closing, timers_held, timers_paced, timers_released, timers_sealed, timers_stopped, timers_issued, timers_outlived}
 use Rattle.qc_state.specs.Types.{Types, Meaning}
 use Rattle.qc_state.specs.View.{View, At}
 use Rattle.qc_state.specs.Waiting.{ack_released, bundle_next, close_begun, crypto_written, done_asked, fired_in, packet_came, packet_told, packets_acked, frames_again, packets_lost, ping_asked, probe_spent, probes_added, space_left, waiting_without}
@@ -178,7 +178,7 @@ module _ {t : Types} where
       }
 
   move_keeps : (x : Move t) → IsMade x → (a : At t) → MayMove x a.state → Keeps a (move_to x a)
-  unfolding MayMove move_to state_move life_move timers_move waiting_move ping_asked waiting_without space_left packet_came packets_lost packets_acked ack_released crypto_written done_asked life_established life_drained life_closed life_raised data_ready token_learned identifiers_wanted reason_given timers_armed timers_paced timers_released timers_outlived timers_stopped timers_closing close_begun
+  unfolding MayMove move_to state_move life_move timers_move waiting_move ping_asked waiting_without space_left packet_came packets_lost packets_acked ack_released crypto_written done_asked life_established life_drained life_closed life_raised data_ready token_learned identifiers_wanted reason_given timers_armed timers_paced timers_held timers_released timers_outlived timers_stopped timers_closing close_begun
   move_keeps (Clock time) r a may = absurd may
   move_keeps (Ask id) r a may = λ h. h
   move_keeps (Take id fs) r a may = λ h. h
@@ -222,7 +222,9 @@ module _ {t : Types} where
   move_keeps (Raise to) r a may = λ h. subst (λ (x : State). EndHolds x (timers_stopped a.state.timers) a.state.waiting.close_owed) (sym r)
       (record { closing = λ low high. absurd (omega (arith, high)); ended = λ d. none_stopped a.state.timers; owed = λ e. refl })
   move_keeps (Give why) r a may = λ h. same_holds _ _ _ _ _ _ (given_state a.state.life why (is_none a.state.life.reason)) refl refl h
-  move_keeps (Finish bytes) r a may = λ h. h
+  move_keeps (Spend tokens) r a may = λ h. h
+  move_keeps (Hold until) r a may = λ h. record { closing = h.closing; ended = λ d. absurd cc; owed = h.owed }
+  move_keeps (Finish bytes control) r a may = λ h. h
   move_keeps (Say q) r a may = λ h. h
   move_keeps (Hand frame) r a may = λ h. same_holds _ _ _ _ _ _ (heard_state (tells_datagram frame a.state.lower.datagrams) a.state.life) refl refl h
   move_keeps (Call x) r a may = λ h. h

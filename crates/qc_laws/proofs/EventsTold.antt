@@ -9,7 +9,7 @@ use Rattle.qc_state.specs.declared.deeds.Did.TheVariants as did
 use Rattle.qc_state.specs.declared.events.EndpointEvent.{EndpointEvent}
 use Rattle.qc_state.specs.declared.events.EndpointEvent.TheVariants as endpoint
 use Rattle.qc_state.specs.declared.events.Event.{Event}
-use Rattle.qc_state.specs.declared.events.Event.TheVariants.{HandshakeDataReady, Connected, Stream, ConnectionLost, DatagramReceived}
+use Rattle.qc_state.specs.declared.events.Event.TheVariants.{HandshakeDataReady, Connected, Stream, ConnectionLost, DatagramReceived, DatagramsUnblocked}
 use Rattle.qc_state.specs.declared.input.Input.{Input}
 use Rattle.qc_state.specs.declared.life.ConnectionError.{ConnectionError}
 use Rattle.qc_state.specs.declared.life.Life.{Life}
@@ -18,8 +18,8 @@ use Rattle.qc_state.specs.declared.life.State.TheVariants as state
 use Rattle.qc_state.specs.declared.trace.Step.{Step}
 use Rattle.qc_laws.specs.EventLaws.{EachTells, OnlyDoneWaits, TellsDone, TellsOnce, Untold, all_told, connections_in, endpoint_events_of, ends_in, events_of, losses_in, once, rises_to, untold_of, is_heard}
 use Rattle.qc_state.specs.Headline.{LifeRises, LosesOnce, RisesFrom, deeds_of, lives_in, reasons_in}
-use Rattle.qc_state.specs.Life.{connected_event, connected_reported, data_ready, drained_event, drained_reported, event_if, identifiers_wanted, is_drained, life_closed, life_drained, life_established, life_raised, lost_event, lost_reported, rank_of, ready_event, ready_reported, reason_given, token_learned, notices_reported, all_heard_reported, datagram_heard, retirement_told, token_told}
-use Rattle.qc_state.specs.Moves.{IsTold, MayMove, Move, Accept, Clock, PeerClosesToo, Enter, Establish, Give, PeerCloses, Raise, Ready, ReportConnected, ReportDrained, ReportLost, ReportReady, ReportNotice, ReportNotices, Say, Seal, Shut, Tell, Token, Want, deeds_move, life_move, move_to, state_move, Hand, ReportStream, ReportStreams, ReportHeard, ReportAllHeard, told_to_streams, Insert, Switch, Retire}
+use Rattle.qc_state.specs.Life.{connected_event, connected_reported, data_ready, drained_event, drained_reported, event_if, identifiers_wanted, is_drained, life_closed, life_drained, life_established, life_raised, lost_event, lost_reported, more_heard, rank_of, ready_event, ready_reported, reason_given, token_learned, notices_reported, all_heard_reported, datagram_heard, retirement_told, token_told}
+use Rattle.qc_state.specs.Moves.{IsTold, MayMove, Move, Accept, Clock, PeerClosesToo, Enter, Establish, Give, PeerCloses, Raise, Ready, ReportConnected, ReportDrained, ReportLost, ReportReady, ReportNotice, ReportNotices, Say, Seal, Shut, Take, Tell, Token, Want, deeds_move, life_move, move_to, state_move, Hand, ReportStream, ReportStreams, ReportHeard, ReportAllHeard, told_to_streams, Insert, Switch, Retire}
 use Rattle.qc_state.specs.Polls.{endpoint_events, waiting_events}
 use Rattle.qc_state.specs.Run.{IsStep, Ran, Run, began, called, input_after, reported, step_after, time_of, IsAllowed}
 use Rattle.qc_state.specs.Types.{Types, Meaning}
@@ -31,7 +31,10 @@ use Rattle.qc_laws.proofs.StreamCalls.{handed_told}
 use Rattle.qc_streams.specs.declared.events.StreamEvent.{StreamEvent}
 use Rattle.qc_state.specs.declared.deeds.Layer.TheVariants as layer
 use Rattle.qc_state.specs.Streams as streams_events
-use Rattle.qc_state.specs.Datagrams.{tells_datagram}
+use Rattle.qc_state.specs.Datagrams.{sealed_datagrams, tells_datagram, told_by, told_by_all}
+use Rattle.qc_datagrams.specs.Steps as posts
+use Rattle.qc_datagrams.specs.declared.datagrams.Datagrams.{Datagrams}
+use Rattle.qc_frame.specs.declared.frames.FrameOf.TheVariants as frames
 use Rattle.qc_state.specs.Sending.{Choice}
 use Rattle.std.specs.List.{list_all}
 use Rattle.qc_cids.specs.Cids.{asks_one, next_token, token_by}
@@ -68,6 +71,7 @@ losses_append (HandshakeDataReady ∷ es) fs = losses_append es fs
 losses_append (Connected ∷ es) fs = losses_append es fs
 losses_append (Stream event ∷ es) fs = losses_append es fs
 losses_append (DatagramReceived ∷ es) fs = losses_append es fs
+losses_append (DatagramsUnblocked ∷ es) fs = losses_append es fs
 losses_append (ConnectionLost why ∷ es) fs = ap (λ (x : List ConnectionError). why ∷ x) (losses_append es fs)
 
 connections_append : (es fs : List Event) → connections_in (es ++ fs) ≡ connections_in es + connections_in fs
@@ -76,6 +80,7 @@ connections_append (HandshakeDataReady ∷ es) fs = connections_append es fs
 connections_append (Connected ∷ es) fs = let more : connections_in (es ++ fs) ≡ connections_in es + connections_in fs = connections_append es fs in omega (arith, more)
 connections_append (Stream event ∷ es) fs = connections_append es fs
 connections_append (DatagramReceived ∷ es) fs = connections_append es fs
+connections_append (DatagramsUnblocked ∷ es) fs = connections_append es fs
 connections_append (ConnectionLost why ∷ es) fs = connections_append es fs
 
 ends_append : (es fs : List EndpointEvent) → ends_in (es ++ fs) ≡ ends_in es + ends_in fs
@@ -161,16 +166,45 @@ given_waits v why none h =
     let before : v.lost ≡ None = h.lost (ap is_none none) in
     rw none (record { done = record { lost = λ e. cc e; connected = h.connected; drained = h.drained; notices = h.notices; heard = h.heard }; lost = rw before refl; connected = omega arith; drained = omega arith })
 
--- that a datagram came waits behind what waits of datagrams
-heard_more : (es : List Event) → list_all is_heard es ≡ true → list_all is_heard (es ++ DatagramReceived ∷ []) ≡ true
-heard_more [] h = refl
-heard_more (DatagramReceived ∷ es) h = heard_more es h
-heard_more (_ ∷ es) h = cc
+-- what tells of datagrams waits behind what waits of them
+heard_more : (es fs : List Event) → list_all is_heard es ≡ true → list_all is_heard fs ≡ true → list_all is_heard (es ++ fs) ≡ true
+heard_more [] fs h g = g
+heard_more (DatagramReceived ∷ es) fs h g = heard_more es fs h g
+heard_more (DatagramsUnblocked ∷ es) fs h g = heard_more es fs h g
+heard_more (_ ∷ es) fs h g = cc
+
+-- what steps of datagrams tell is such
+told_is_heard : (x : posts.Step) (d : Datagrams) → list_all is_heard (told_by x d) ≡ true
+told_is_heard (posts.Came body) d = by (tells_datagram (frames.Datagram body) d)
+  where
+    by : (b : Bool) → list_all is_heard (if b then DatagramReceived ∷ [] else []) ≡ true
+    by true = refl
+    by false = refl
+told_is_heard posts.Sealed d = by d.blocked
+  where
+    by : (b : Bool) → list_all is_heard (if b then DatagramsUnblocked ∷ [] else []) ≡ true
+    by true = refl
+    by false = refl
+told_is_heard _ d = refl
+
+all_told_are_heard : (xs : List posts.Step) (d : Datagrams) → list_all is_heard (told_by_all xs d) ≡ true
+unfolding told_by_all
+all_told_are_heard [] d = refl
+all_told_are_heard (x ∷ xs) d = heard_more (told_by x d) (told_by_all xs (posts.after_step x d)) (told_is_heard x d) (all_told_are_heard xs (posts.after_step x d))
+
+-- more that tells of datagrams waits
+more_waits : (es : List Event) (v : Life) → list_all is_heard es ≡ true → Waits [] v v → Waits [] v (more_heard es v)
+more_waits es v are h = record {
+  done = record { lost = h.done.lost; connected = h.done.connected; drained = h.done.drained; notices = h.done.notices; heard = heard_more v.heard es h.done.heard are };
+  lost = h.lost;
+  connected = h.connected;
+  drained = h.drained;
+}
 
 heard_waits : (tells : Bool) (ds : List Did) (v : Life) → Waits ds v v → Waits ds v (datagram_heard tells v)
 unfolding datagram_heard
 heard_waits true ds v h = record {
-  done = record { lost = h.done.lost; connected = h.done.connected; drained = h.done.drained; notices = h.done.notices; heard = heard_more v.heard h.done.heard };
+  done = record { lost = h.done.lost; connected = h.done.connected; drained = h.done.drained; notices = h.done.notices; heard = heard_more v.heard (DatagramReceived ∷ []) h.done.heard refl };
   lost = h.lost;
   connected = h.connected;
   drained = h.drained;
@@ -216,6 +250,8 @@ module _ {t : Types} where
   life_waits : (x : Move t) (s : View t) → IsMade x → MayMove x s → OnlyDoneWaits s.life → Waits (deeds_move x s) s.life (life_move x s)
   unfolding MayMove deeds_move life_move life_closed life_drained data_ready token_learned identifiers_wanted
   life_waits (Clock time) s r h w = absurd r
+  life_waits (Take id fs) s r h w =
+      more_waits (told_by_all (sealed_datagrams fs) s.lower.datagrams) s.life (all_told_are_heard (sealed_datagrams fs) s.lower.datagrams) (same_waits [] s.life refl refl refl w)
   life_waits (Seal time form n size fs) s r h w = same_waits _ s.life refl refl refl w
   life_waits (Enter id n v) s r h w = same_waits _ s.life refl refl refl w
   life_waits (Accept time id n e g v) s r h w = same_waits _ s.life refl refl refl w
@@ -273,11 +309,13 @@ lost_losses None = refl
 heard_losses : (hs fs : List Event) → list_all is_heard hs ≡ true → losses_in (hs ++ fs) ≡ losses_in fs
 heard_losses [] fs h = refl
 heard_losses (DatagramReceived ∷ hs) fs h = heard_losses hs fs h
+heard_losses (DatagramsUnblocked ∷ hs) fs h = heard_losses hs fs h
 heard_losses (_ ∷ hs) fs h = cc
 
 heard_connections : (hs fs : List Event) → list_all is_heard hs ≡ true → connections_in (hs ++ fs) ≡ connections_in fs
 heard_connections [] fs h = refl
 heard_connections (DatagramReceived ∷ hs) fs h = heard_connections hs fs h
+heard_connections (DatagramsUnblocked ∷ hs) fs h = heard_connections hs fs h
 heard_connections (_ ∷ hs) fs h = cc
 
 waiting_losses : (r c : Bool) (hs : List Event) (es : List StreamEvent) (o : Option ConnectionError) → list_all is_heard hs ≡ true →

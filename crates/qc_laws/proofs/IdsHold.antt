@@ -25,17 +25,18 @@ use Rattle.qc_state.specs.declared.deeds.Verdict.TheVariants as verdict
 use Rattle.qc_state.specs.declared.form.Form.{Form}
 use Rattle.qc_state.specs.declared.input.Input.{Input}
 use Rattle.qc_state.specs.declared.lower.Lower.{Lower}
+use Rattle.qc_state.specs.declared.paths.Path.{Path}
 use Rattle.qc_state.specs.declared.paths.Paths.{Paths}
 use Rattle.qc_state.specs.declared.trace.Step.{Step}
 use Rattle.qc_state.specs.Flight.{flown_packet}
 use Rattle.qc_state.specs.Forms.{number_space}
 use Rattle.qc_state.specs.Ids.{again_ids, fired_ids, lost_cid, lost_cids, lost_ids, preferred_cid, preferred_steps, sealed_cid, sealed_cids}
 use Rattle.qc_state.specs.Lower.{bytes_came, datagrams_stepped, events_told, flight_dropped, frame_handed, frames_sealed, ids_stepped, limits_learned, packet_flown, packets_settled, session_read, session_wrote, streams_closed, streams_stepped, timer_fired}
-use Rattle.qc_state.specs.Moves.{Accept, Ack, Begin, Clock, Finish, Fire, Fix, Forget, Hear, Insert, Issue, Learn, MayMove, Move, Outlive, Retire, Say, Seal, Switch, Take, Want, lower_move, move_to, paths_move, state_move}
+use Rattle.qc_state.specs.Moves.{Accept, Ack, Begin, Clock, Finish, Fire, Fix, Forget, Hear, Insert, Issue, Learn, MayMove, Move, Outlive, Retire, Say, Seal, Spend, Switch, Take, Want, lower_move, move_to, paths_move, state_move}
 use Rattle.qc_state.specs.Moves as moves
 use Rattle.qc_state.specs.Numbers.{next_number, received_number}
 use Rattle.qc_state.specs.Offers.{begun_ids, oldest_in, probe_ids, wants_sending}
-use Rattle.qc_state.specs.Paths.{path_accepted, path_idle, path_kept, path_named, path_received, path_sent, path_spun, peer_fixed, spun_by}
+use Rattle.qc_state.specs.Paths.{path_accepted, path_kept, path_named, path_received, path_sent, path_spun, peer_fixed, spun_by}
 use Rattle.qc_state.specs.Run.{IsStep, Run, began, called, reported, step_after, time_of}
 use Rattle.qc_state.specs.Sending.{packet_size}
 use Rattle.qc_state.specs.Spaces.{space_of}
@@ -43,6 +44,7 @@ use Rattle.qc_state.specs.Types.{Types, Meaning}
 use Rattle.qc_state.specs.View.{View, At}
 use Rattle.qc_state.specs.Waiting.{probe_spent}
 use Rattle.qc_state.proofs.Probed.{begun_streams}
+use Rattle.qc_state.proofs.Quieted.{quiet_chosen, quiet_current}
 use Rattle.qc_state.proofs.Transmitted.{IsSealable}
 use Rattle.qc_laws.specs.IdLaws.{IdsHold}
 use Rattle.qc_laws.proofs.KnownMoves.{IsKnownMove, known_input}
@@ -207,11 +209,12 @@ module _ {t : Types} (m : Meaning t) where
 
   -- each move
   ids_move : (x : Move t) (s : View t) → IsKnownMove m x s → MayMove x s → IdsHold s (state_move x s)
-  unfolding state_move lower_move paths_move path_idle path_kept path_named path_received path_sent peer_fixed MayMove frames_sealed ids_stepped streams_stepped datagrams_stepped bytes_came session_read session_wrote flight_dropped packets_settled timer_fired frame_handed streams_closed limits_learned after after_step
+  unfolding state_move lower_move paths_move path_kept path_named path_received path_sent peer_fixed MayMove frames_sealed ids_stepped streams_stepped datagrams_stepped bytes_came session_read session_wrote flight_dropped packets_settled timer_fired frame_handed streams_closed limits_learned after after_step
   ids_move (Clock time) s known may = absurd known
   ids_move (Take id fs) s known may = absurd known
   ids_move (Seal time form n size fs) s known may = absurd known
-  ids_move (Finish bytes) s known may = ids_by s _ refl (record { chosen = refl; used = refl })
+  ids_move (Spend tokens) s known may = ids_by s _ refl (record { chosen = refl; used = refl })
+  ids_move (Finish bytes control) s known may = ids_by s _ refl (record { chosen = refl; used = refl })
   ids_move (Fix cid) s known may = record {
     chosen = λ other e. cc (may, e);
     carried = λ k. record { some = renamed_some cid s.lower.ids.remote k.some; used = renamed_active cid s.lower.ids.remote k.some };
@@ -227,7 +230,7 @@ module _ {t : Types} (m : Meaning t) where
   ids_move (Forget id) s known may = ids_by s _ refl (record { chosen = refl; used = refl })
   ids_move (Ack id n r) s known may = ids_by s _ (calm_steps (lost_ids r.lost) s.lower.ids (packets_calm r.lost)) (record { chosen = refl; used = refl })
   ids_move (Fire r) s known may = ids_by s _ (calm_steps (fired_ids r.fired) s.lower.ids (fired_calm r.fired)) (record { chosen = refl; used = refl })
-  ids_move (Say quiet) s known may = ids_by s _ refl (record { chosen = refl; used = refl })
+  ids_move (Say quiet) s known may = ids_by s _ refl (record { chosen = quiet_chosen s.paths quiet; used = ap (λ (p : Path t.C). p.remote_cid) (quiet_current s.paths quiet) })
   ids_move (Begin id opens) s known may =
       ids_by s _ (ap (λ (l : Lower t.S). l.ids.remote) (begun_streams id opens s) ∙ calm_steps (begun_ids id opens s) s.lower.ids (begun_calm id opens s)) (record { chosen = refl; used = refl })
   ids_move (Retire time n) s known may = ids_by s _ (calm_step (cids.RetireCame _ n) s.lower.ids tt) (record { chosen = refl; used = refl })

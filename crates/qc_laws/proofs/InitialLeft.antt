@@ -1,6 +1,6 @@
 -- Over a run no Initial packet is sealed by an end that has left the Initial space.
-use Rattle.std.proofs.Common.{◌≡◌, ℕ, ◌+◌, ◌<◌, List, [], ◌∷◌, ◌++◌, refl, ap, sym, ◌∙◌, subst, Bool, true, false, Option, Some, None, if◌then◌else◌, append_assoc, append-nil, arith}
-use Rattle.std.specs.Prelude.{◌&&◌, ◌||◌, not, is_some}
+use Rattle.std.proofs.Common.{◌≡◌, ◌⊎◌, inl, inr, ℕ, ◌+◌, ◌<◌, ◌≤◌, List, [], ◌∷◌, ◌++◌, refl, ap, sym, ◌∙◌, subst, Bool, true, false, Option, Some, None, if◌then◌else◌, append_assoc, append-nil, arith}
+use Rattle.std.specs.Prelude.{◌&&◌, ◌||◌, ◌==◌, not, is_none, is_some}
 use Rattle.std.specs.List.{list_any}
 use Rattle.qc_base.specs.declared.side.Side.{Side}
 use Rattle.qc_base.specs.declared.side.Side.TheVariants.{Client, Server}
@@ -13,6 +13,7 @@ use Rattle.qc_state.specs.declared.form.Form.TheVariants as form
 use Rattle.qc_state.specs.declared.coming.Coming.{Coming}
 use Rattle.qc_state.specs.declared.deeds.Did.{Did}
 use Rattle.qc_state.specs.declared.deeds.Did.TheVariants as did
+use Rattle.qc_state.specs.declared.deeds.Quiet.TheVariants.{Killed, Pacing}
 use Rattle.qc_state.specs.declared.deeds.Verdict.{Verdict}
 use Rattle.qc_state.specs.declared.deeds.Verdict.TheVariants as verdict
 use Rattle.qc_state.specs.declared.input.Input.{Input}
@@ -20,21 +21,24 @@ use Rattle.qc_state.specs.declared.input.Input.TheVariants as input
 use Rattle.qc_state.specs.declared.keys.KeyGroup.{KeyGroup}
 use Rattle.qc_state.specs.declared.keys.SpaceKeys.{SpaceKeys}
 use Rattle.qc_state.specs.declared.life.Close.{Close}
+use Rattle.qc_state.specs.declared.life.ConnectionError.{ConnectionError}
+use Rattle.qc_state.specs.declared.life.State.TheVariants as state
 use Rattle.qc_state.specs.declared.trace.Step.{Step}
 use Rattle.qc_state.specs.declared.transmit.Batch.{Batch}
 use Rattle.qc_state.specs.Forms.{number_space, is_early}
 use Rattle.qc_state.specs.Headline.{deeds_of}
-use Rattle.qc_laws.specs.InitialLaws.{LeavesInitial, NoneInitial, has_left, leaves_with, seals_initial}
+use Rattle.qc_laws.specs.InitialLaws.{LeavesInitial, NoneInitial, has_left, is_left, leaves_with, seals_initial}
 use Rattle.qc_state.specs.Keys.{NewKeys, NoKeys, HandshakeKeys, DataKeys, count_one, failure_counted, has_keys, key_used, keys_dropped, keys_given, epoch_in, form_in, has_keys_for}
-use Rattle.qc_state.specs.Life.{is_open, is_over}
-use Rattle.qc_state.specs.Moves.{Accept, Ask, Begin, PeerClosesToo, Enter, Establish, Expect, Fail, Finish, Forget, Give, IsTold, Learn, PeerCloses, MayMove, Move, Owe, Raise, Say, Seal, Shut, Skip, Take, Tell, Write, accepts, armed_with, deeds_move, enters, keys_move, move_to, setup_move, state_move, Hand, Call, Post, Insert, Retire, Issue}
+use Rattle.qc_state.specs.Life.{all_heard_reported, connected_reported, drained_reported, is_drained, is_open, is_over, life_raised, lost_reported, notice_reported, notices_reported, rank_of, ready_reported, reason_given}
+use Rattle.qc_state.specs.Moves.{Accept, Arm, Ask, Begin, PeerClosesToo, Enter, Establish, Expect, Fail, Finish, Forget, Give, Hold, IsTold, Learn, PeerCloses, MayMove, Move, Owe, Raise, Say, Seal, Shut, Skip, Spend, Take, Tell, Write, accepts, armed_with, deeds_move, keys_move, life_move, move_to, setup_move, state_move, Hand, Call, Post, Insert, Retire, Issue}
 use Rattle.qc_state.specs.Numbers.{is_skipped, next_number}
 use Rattle.qc_state.specs.Paths.{is_blocked}
 use Rattle.qc_state.specs.Receiving.{accepted_after, admitted_after, datagram_after, fixed_after, is_close_item, is_eliciting_item, read_for_close, received_after, signs_of, verdict_after}
 use Rattle.qc_state.specs.Run.{IsAllowed, IsStep, Run, began, called, close_after, input_after, reported, step_after, time_of, datagram_limit}
-use Rattle.qc_state.specs.Sending.{Choice, Died, Ending, Going, Hushed, MayAll, MayEnd, MayFollow, MayTransmit, Sent, Went, batch_grown, begun_after, drops_initial, ending_after, finished_after, flown_after, going_from, gone_after, handshake_left, initial_left, is_flown, leaves_initial, packet_after, packet_size, packets_after, sealed_in, skipped_after, spared_after, transmit_after}
+use Rattle.qc_state.specs.Sending.{Choice, Died, Ending, Going, Held, Hushed, MayAll, MayEnd, MayFollow, MayTransmit, Sent, Went, batch_grown, begun_after, begun_batch, drops_initial, ending_after, finished_after, flown_after, going_from, gone_after, handshake_left, held_after, initial_left, is_flown, is_in_order, leaves_initial, packet_after, packet_size, packets_after, sealed_in, skipped_after, spared_after, spent_after, told_sent, transmit_after}
 use Rattle.qc_state.specs.Setup.{packet_drawn, parameters_known, token_expected, word_drawn}
-use Rattle.qc_state.specs.Spaces.{is_space}
+use Rattle.qc_state.specs.Stopping.{given_after, killed_after}
+use Rattle.qc_state.specs.Spaces.{is_space, space_of}
 use Rattle.qc_state.specs.Timeouts.{timeout_after}
 use Rattle.qc_state.specs.Types.{Types, Meaning}
 use Rattle.qc_state.specs.Verdicts.{verdict_of}
@@ -45,139 +49,14 @@ use Rattle.qc_state.proofs.OpenPackets.{holds_fixed, holds_packet, holds_payload
 use Rattle.qc_state.proofs.PacketMoves.{IsInPacket, OpenPacket}
 use Rattle.qc_state.proofs.ReceivedMoves.{IsOutside}
 use Rattle.qc_laws.proofs.Receives.{datagram_holds}
-use Rattle.qc_state.proofs.Telling.{told_appends}
-use Rattle.qc_state.proofs.Transmitted.{IsSending, holds_ending, holds_packets, holds_spared, owing_keyed}
+use Rattle.qc_state.proofs.Telling.{Told, kernel, told_appends}
+use Rattle.qc_state.proofs.Transmitted.{IsPacketMove, IsSending, holds_ending, holds_packets, holds_spared, owing_keyed}
+use Rattle.qc_laws.proofs.CryptoPlaces.{given_open}
+use Rattle.qc_laws.proofs.InitialDeeds.{accepted_quiet, drained_high, either, high_drained, late_space, left_append, left_by_test, none_append, not_left, one_silent, opened_shook, or_first, or_second, piece_silent, sealed_initial, sealed_shakes, shaking_late, silent_append, silent_left, silent_none, SilentBut, tells_rank, test_of_left, told_silent}
+use Rattle.qc_laws.proofs.Told.{told_input}
 use Rattle.qc_laws.proofs.StreamCalls.{called_input, handed_told}
 use Rattle.qc_state.specs.declared.deeds.Layer.TheVariants as layer
 use Rattle.qc_datagrams.specs.Steps as datagrams
-
--- ---- tests
-
-or_first : (a b : Bool) → a ≡ true → (a || b) ≡ true
-or_first true b h = refl
-or_first false b h = cc
-
-or_second : (a b : Bool) → b ≡ true → (a || b) ≡ true
-or_second true b h = refl
-or_second false b h = h
-
--- ---- deeds
-
--- deeds that seal no Initial packet; with each of them by which an end of some side leaves the space, this holds, and the side is a
--- server
-abbrev SilentBut : Type 0 → List Did → Type 0
-SilentBut P [] = Unit {0}
-SilentBut P (d ∷ ds) = (seals_initial d ≡ false) × ((side : Side) → leaves_with side d ≡ true → P × (side ≡ Server)) × SilentBut P ds
-
-silent_append : (P : Type 0) (ds es : List Did) → SilentBut P ds → SilentBut P es → SilentBut P (ds ++ es)
-silent_append P [] es a b = b
-silent_append P (d ∷ ds) es a b = (a.0, a.1, silent_append P ds es a.2 b)
-
-none_append : (side : Side) (left : Bool) (ds es : List Did) → NoneInitial side left ds → NoneInitial side (has_left side left ds) es → NoneInitial side left (ds ++ es)
-none_append side left [] es a b = b
-none_append side left (d ∷ ds) es a b = (a.0, none_append side (left || leaves_with side d) ds es a.1 b)
-
-left_append : (side : Side) (left : Bool) (ds es : List Did) → has_left side left (ds ++ es) ≡ has_left side (has_left side left ds) es
-left_append side left [] es = refl
-left_append side left (d ∷ ds) es = left_append side (left || leaves_with side d) ds es
-
-silent_none : (P : Type 0) (side : Side) (left : Bool) (ds : List Did) → SilentBut P ds → NoneInitial side left ds
-silent_none P side left [] h = tt
-silent_none P side left (d ∷ ds) h = (λ seals. let quiet : seals_initial d ≡ false = h.0 in cc, silent_none P side (left || leaves_with side d) ds h.2)
-
--- where an end has left behind such deeds, it had before, or this holds
-silent_left : (P : Type 0) (Q : Type 0) (side : Side) (left : Bool) (ds : List Did) → SilentBut P ds → (left ≡ true → Q) → (P → side ≡ Server → Q) → has_left side left ds ≡ true → Q
-silent_left P Q side left [] h was does e = was e
-silent_left P Q side left (d ∷ ds) h was does e = silent_left P Q side (left || leaves_with side d) ds h.2 (by_tests left (leaves_with side d) refl) does e
-  where
-    by_tests : (l w : Bool) → leaves_with side d ≡ w → (left || leaves_with side d) ≡ true → Q
-    by_tests l true is either = let both = h.1 side is in does both.0 both.1
-    by_tests l false is either = was (sym (or_none left (leaves_with side d) is) ∙ either)
-      where
-        or_none : (a b : Bool) → b ≡ false → (a || b) ≡ a
-        or_none true b k = refl
-        or_none false b k = k
-
-rose_quiet : (P : Type 0) (rank : ℕ) (side : Side) → leaves_with side (did.Rose rank) ≡ true → P × (side ≡ Server)
-rose_quiet P rank Client h = cc
-rose_quiet P rank Server h = cc
-
-lost_quiet : (P : Type 0) (side : Side) (d : Did) → leaves_with side d ≡ false → leaves_with side d ≡ true → P × (side ≡ Server)
-lost_quiet P side d none h = absurd cc
-
-reason_silent : (side : Side) (d : Did) → (leaves_with Client d ≡ false) → (leaves_with Server d ≡ false) → leaves_with side d ≡ false
-reason_silent Client d a b = a
-reason_silent Server d a b = b
-
--- a deed with which no end leaves
-one_silent : (P : Type 0) (d : Did) → seals_initial d ≡ false → leaves_with Client d ≡ false → leaves_with Server d ≡ false → SilentBut P (d ∷ [])
-one_silent P d seals a b = (seals, λ side h. lost_quiet P side d (reason_silent side d a b) h, tt)
-
--- one that tells of a packet which isn't accepted
-piece_quiet : (space : Option SpaceId) (n : Option ℕ) (v : Verdict) → accepts v ≡ false → leaves_with Server (did.Piece space n v) ≡ false
-piece_quiet None n v h = refl
-piece_quiet (Some Initial) n v h = refl
-piece_quiet (Some Handshake) n v h = h
-piece_quiet (Some Data) n v h = refl
-
-piece_silent : (P : Type 0) (space : Option SpaceId) (n : Option ℕ) (v : Verdict) → accepts v ≡ false → SilentBut P (did.Piece space n v ∷ [])
-piece_silent P space n v h = one_silent P (did.Piece space n v) refl refl (piece_quiet space n v h)
-
--- one that tells of a packet which is accepted
-accepted_quiet : (P : Type 0) (id : SpaceId) (n : Option ℕ) (v : Verdict) → (id ≡ Handshake → P) → (side : Side) → leaves_with side (did.Piece (Some id) n v) ≡ true → P × (side ≡ Server)
-accepted_quiet P Initial n v is Client h = cc
-accepted_quiet P Initial n v is Server h = cc
-accepted_quiet P Handshake n v is Client h = cc
-accepted_quiet P Handshake n v is Server h = (is refl, refl)
-accepted_quiet P Data n v is Client h = cc
-accepted_quiet P Data n v is Server h = cc
-
-enters_accepts : (v : Verdict) → enters v ≡ false → accepts v ≡ false
-enters_accepts verdict.Ignored h = refl
-enters_accepts verdict.Failure h = refl
-enters_accepts verdict.BadBits h = refl
-enters_accepts verdict.Seen h = refl
-enters_accepts verdict.ReadForClose h = refl
-enters_accepts verdict.NumberOnly h = refl
-enters_accepts verdict.AckOnly h = cc
-enters_accepts verdict.Admitted h = cc
-
-told_silent : (P : Type 0) (d : Did) → IsTold d → SilentBut P (d ∷ [])
-told_silent P (did.Piece space number v) h = piece_silent P space number v (enters_accepts v h)
-told_silent P (did.Gave layer body) h = one_silent P (did.Gave layer body) refl refl refl
-told_silent P _ h = absurd h
-
--- ---- packets that are sealed
-
--- one packet, and the ending
-shook_by : (id : SpaceId) (size : ℕ) (nearly : Bool) (b : Batch) → id ≡ Handshake → (batch_grown id size nearly b).shook ≡ true
-unfolding batch_grown
-shook_by id size nearly b is = subst (λ (space : SpaceId). (b.shook || is_space space Handshake) ≡ true) (sym is) (or_second b.shook true refl)
-
-sealed_shakes : (side : Side) (id : SpaceId) (n epoch : ℕ) (early : Bool) (fs : List FrameValue) → leaves_with side (did.Sealed id n epoch early fs) ≡ true → (side ≡ Client) × (id ≡ Handshake)
-sealed_shakes Client Initial n epoch early fs h = cc
-sealed_shakes Client Handshake n epoch early fs h = (refl, refl)
-sealed_shakes Client Data n epoch early fs h = cc
-sealed_shakes Server Initial n epoch early fs h = cc
-sealed_shakes Server Handshake n epoch early fs h = cc
-sealed_shakes Server Data n epoch early fs h = cc
-
-sealed_initial : (id : SpaceId) (n epoch : ℕ) (early : Bool) (fs : List FrameValue) → seals_initial (did.Sealed id n epoch early fs) ≡ true → id ≡ Initial
-sealed_initial Initial n epoch early fs h = refl
-sealed_initial Handshake n epoch early fs h = cc
-sealed_initial Data n epoch early fs h = cc
-
-either : (left shakes : Bool) (Q : Type 0) → (left ≡ true → Q) → (shakes ≡ true → Q) → (left || shakes) ≡ true → Q
-either true shakes Q was does e = was refl
-either false shakes Q was does e = does e
-
-not_left : (left : Bool) → (left ≡ true → ⊥) → left ≡ false
-not_left true h = absurd (h refl)
-not_left false h = refl
-
-no_keys : (b : Bool) → not b ≡ true → b ≡ false
-no_keys true h = cc
-no_keys false h = refl
 
 -- ---- keys
 
@@ -301,23 +180,23 @@ module _ {t : Types} where
     side = move_side x a;
   }
 
-  -- ---- what the law says, from one moment to another
+  -- ---- what the law says, from one moment to another: where nothing is sealed
 
   record Leaves (side : Side) (a b : At t) : Type 0 where
     pub since : List Did
     pub appended : b.did ≡ a.did ++ since
-    pub none : (left : Bool) → side_of a ≡ side → (left ≡ true → Gone a) → NoneInitial side left since
+    pub none : (left : Bool) → NoneInitial side left since
     pub gone : (left : Bool) → side_of a ≡ side → (left ≡ true → Gone a) → has_left side left since ≡ true → Gone b
     pub same : side_of b ≡ side_of a
 
   leaves_here : (side : Side) (a : At t) → Leaves side a a
-  leaves_here side a = record { since = []; appended = sym (append-nil a.did); none = λ left is h. tt; gone = λ left is h e. h e; same = refl }
+  leaves_here side a = record { since = []; appended = sym (append-nil a.did); none = λ left. tt; gone = λ left is h e. h e; same = refl }
 
   leaves_next : (side : Side) (a b c : At t) → Leaves side a b → Leaves side b c → Leaves side a c
   leaves_next side a b c g h = record {
     since = g.since ++ h.since;
     appended = h.appended ∙ ap (λ (x : List Did). x ++ h.since) g.appended ∙ append_assoc a.did g.since h.since;
-    none = λ left is k. none_append side left g.since h.since (g.none left is k) (h.none (has_left side left g.since) (g.same ∙ is) (g.gone left is k));
+    none = λ left. none_append side left g.since h.since (g.none left) (h.none (has_left side left g.since));
     gone = λ left is k e. h.gone (has_left side left g.since) (g.same ∙ is) (g.gone left is k) (sym (left_append side left g.since h.since) ∙ e);
     same = h.same ∙ g.same;
   }
@@ -326,13 +205,39 @@ module _ {t : Types} where
   quiet_leaves P side a b q does = record {
     since = q.since;
     appended = q.appended;
-    none = λ left is k. silent_none P side left q.since q.silent;
+    none = λ left. silent_none P side left q.since q.silent;
     gone = λ left is k e. silent_left P (Gone b) side left q.since q.silent (λ l. q.gone (k l)) (λ p server. does p (is ∙ server)) e;
     same = q.side;
   }
 
   move_leaves : (side : Side) (x : Move t) → IsQuiet ⊥ x → (a : At t) → Leaves side a (move_to x a)
   move_leaves side x q a = quiet_leaves ⊥ side a (move_to x a) (quiet_move ⊥ x q a) (λ p. absurd p)
+
+  -- ---- and where packets may be sealed: the space has no keys, or the connection has ended
+
+  abbrev HasLeft : View t → Type 0
+  HasLeft s = (has_keys s.keys Initial ≡ false) ⊎ (is_drained s.life.state ≡ true)
+
+  abbrev Ended : At t → Type 0
+  Ended a = is_drained a.state.life.state ≡ true
+
+  either_left : (a b : At t) → (Gone a → Gone b) → (Ended a → Ended b) → HasLeft a.state → HasLeft b.state
+  either_left a b gone ended (inl h) = inl (gone h)
+  either_left a b gone ended (inr h) = inr (ended h)
+
+  record Departs (side : Side) (a b : At t) : Type 0 where
+    pub since : List Did
+    pub appended : b.did ≡ a.did ++ since
+    pub none : (left : Bool) → side_of a ≡ side → (left ≡ true → HasLeft a.state) → NoneInitial side left since
+    pub gone : (left : Bool) → side_of a ≡ side → (left ≡ true → HasLeft a.state) → has_left side left since ≡ true → HasLeft b.state
+    pub same : side_of b ≡ side_of a
+
+  leaves_departs : (side : Side) (a b : At t) → Leaves side a b → (Ended a → Ended b) → Departs side a b
+  leaves_departs side a b h stays = record { since = h.since; appended = h.appended; none = λ left is k. h.none left; gone = departs_by; same = h.same }
+    where
+      departs_by : (left : Bool) → side_of a ≡ side → (left ≡ true → HasLeft a.state) → has_left side left h.since ≡ true → HasLeft b.state
+      departs_by false is k e = inl (h.gone false is (λ l. absurd cc) e)
+      departs_by true is k e = either_left a b (λ gone. h.gone true is (λ l. gone) e) stays (k refl)
 
   -- ---- datagrams
 
@@ -441,10 +346,10 @@ module _ {t : Types} where
   unfolding begun_after skipped_after move_to deeds_move
   begun_deeds id opens a = begun_deeds_by (move_to (Begin id opens) a) (is_skipped (move_to (Begin id opens) a).state.numbers id)
 
-  flown_deeds : (time : ℕ) (a : At t) (b : Bool) → (flown_after time b a).did ≡ a.did
-  unfolding armed_with move_to deeds_move
-  flown_deeds time a true = refl
-  flown_deeds time a false = refl
+  flown_deeds : (m : Meaning t) (time size : ℕ) (a : At t) (b : Bool) → (flown_after m time size b a).did ≡ a.did
+  unfolding armed_with spent_after move_to deeds_move
+  flown_deeds m time size a true = refl
+  flown_deeds m time size a false = refl
 
   sealed_deeds : (time : ℕ) (form : Form) (n size : ℕ) (fs : List FrameValue) (c : At t) →
       (move_to (Seal time form n size fs) (move_to (Take (number_space form) fs) c)).did ≡ c.did ++ did.Sealed (number_space form) n (epoch_in c.state.keys form) (is_early form) fs ∷ []
@@ -452,16 +357,16 @@ module _ {t : Types} where
   sealed_deeds time form n size fs c = refl
 
   -- the deed of a packet, once it was begun
-  abbrev sealed_deed : Sent → At t → Did
+  abbrev pub sealed_deed : Sent → At t → Did
   sealed_deed p a = did.Sealed (number_space p.form) (next_number a.state.numbers (number_space p.form)) (epoch_in a.state.keys p.form) (is_early p.form) p.frames
 
-  packet_deeds : (m : Meaning t) (time : ℕ) (p : Sent) (g : Going t) → (packet_after m time p g).now.did ≡ g.now.did ++ sealed_deed p (begun_after (number_space p.form) p.opens g.now) ∷ []
+  pub packet_deeds : (m : Meaning t) (time : ℕ) (p : Sent) (g : Going t) → (packet_after m time p g).now.did ≡ g.now.did ++ sealed_deed p (begun_after (number_space p.form) p.opens g.now) ∷ []
   unfolding packet_after sealed_in
   packet_deeds m time p g =
       let a : At t = begun_after (number_space p.form) p.opens g.now in
       let n : ℕ = next_number a.state.numbers (number_space p.form) in
       let b : At t = move_to (Seal time p.form n (packet_size a.state p.form p.frames) p.frames) (move_to (Take (number_space p.form) p.frames) a) in
-      flown_deeds time b (is_flown a.state p.frames) ∙ sealed_deeds time p.form n (packet_size a.state p.form p.frames) p.frames a ∙ ap (λ (ds : List Did). ds ++ sealed_deed p a ∷ []) (begun_deeds (number_space p.form) p.opens g.now)
+      flown_deeds m time (packet_size a.state p.form p.frames) b (is_flown a.state p.frames) ∙ sealed_deeds time p.form n (packet_size a.state p.form p.frames) p.frames a ∙ ap (λ (ds : List Did). ds ++ sealed_deed p a ∷ []) (begun_deeds (number_space p.form) p.opens g.now)
 
   -- packets get the space no keys, and leave the side
   packets_gone : (m : Meaning t) (time : ℕ) (ps : List Sent) (g : Going t) → MayAll m time g ps → Gone g.now → Gone (packets_after m time ps g).now
@@ -475,63 +380,173 @@ module _ {t : Types} where
       (λ time form fs d h. move_side (Seal time form (next_number d.state.numbers (number_space form)) (packet_size d.state form fs) fs) (move_to (Take (number_space form) fs) d) ∙ move_side (Take (number_space form) fs) d) m time ps g may
 
   -- a client that sealed a Handshake packet leaves the space as its transmit ends
-  finished_gone : (time : ℕ) (b : Batch) (a : At t) → side_of a ≡ Client → b.shook ≡ true → Gone (finished_after time b a)
-  unfolding finished_after
-  finished_gone time b a client shook =
+  finished_gone : (m : Meaning t) (time : ℕ) (b : Batch) (a : At t) → side_of a ≡ Client → b.shook ≡ true → Gone (finished_after m time b a)
+  unfolding finished_after told_sent
+  finished_gone m time b a client shook =
       let c : At t = handshake_left time b.shook a in
       let gone : Gone c = subst (λ (e : Bool). Gone (handshake_left time e a)) (sym shook) (initial_gone Client false time a client) in
-      move_gone (Finish b.total) (spared_after time b.worn c) (holds_spared (λ d e. Gone d → Gone e) (λ d h. h) (λ d e f h k z. k (h z)) (λ x r d h. move_gone x d) time b.worn c gone)
+      move_gone (Finish b.total _) (spared_after time b.worn c) (holds_spared (λ d e. Gone d → Gone e) (λ d h. h) (λ d e f h k z. k (h z)) (λ x r d h. move_gone x d) time b.worn c gone)
 
-  ending_gone : (time : ℕ) (e : Ending) (b : Batch) (a : At t) → MayEnd e a.state b → 0 < b.made → side_of a ≡ Client → b.shook ≡ true → Gone (ending_after time e b a)
+  -- where it dies behind packets, the connection has ended
+  given_ended : (why : ConnectionError) (b : At t) (x : Bool) → Ended b → Ended (if x then move_to (Give why) b else b)
+  unfolding move_to state_move life_move reason_given
+  given_ended why b true h = ap is_drained (given_open b.state.life why (is_none b.state.life.reason)) ∙ h
+  given_ended why b false h = h
+
+  killed_ended : (why : ConnectionError) (a : At t) → Ended (move_to (Say Killed) (killed_after why a))
+  unfolding killed_after given_after move_to state_move life_move life_raised
+  killed_ended why a = let b : At t = move_to (Raise state.Drained) a in given_ended why b (is_none b.state.life.reason) refl
+
+  held_side : (m : Meaning t) (time : ℕ) (b : Batch) (a : At t) → side_of (held_after m time Pacing b a) ≡ side_of a
+  unfolding held_after
+  held_side m time b a = move_side (Hold _) a
+
+  ending_left : (m : Meaning t) (time : ℕ) (e : Ending) (b : Batch) (a : At t) → MayEnd m time e a.state b → 0 < b.made → side_of a ≡ Client → b.shook ≡ true → HasLeft (ending_after m time e b a).state
   unfolding ending_after
-  ending_gone time Went b a may some client shook = finished_gone time b a client shook
-  ending_gone time (Hushed quiet) b a may some client shook = let none = may.0 in absurd (omega (arith, none, some))
-  ending_gone time (Died why) b a may some client shook = let none = may.0 in absurd (omega (arith, none, some))
+  ending_left m time Went b a may some client shook = inl (finished_gone m time b a client shook)
+  ending_left m time Held b a may some client shook = inl (finished_gone m time b (held_after m time Pacing b a) (held_side m time b a ∙ client) shook)
+  ending_left m time (Hushed quiet) b a may some client shook = let none : b.made ≡ 0 = may.0 in absurd (omega (arith, none, some))
+  ending_left m time (Died why) b a may some client shook = inr (killed_ended why a)
 
-  ending_quiet : (time : ℕ) (e : Ending) (b : Batch) (a : At t) → MayEnd e a.state b → Quiet ⊥ a (ending_after time e b a)
-  ending_quiet time e b a may = holds_ending (Quiet ⊥) (quiet_here ⊥) (quiet_next ⊥) (λ x r c h. quiet_move ⊥ x (sending_quiet x r) c) time e b a may
+  ending_quiet : (m : Meaning t) (time : ℕ) (e : Ending) (b : Batch) (a : At t) → MayEnd m time e a.state b → Quiet ⊥ a (ending_after m time e b a)
+  ending_quiet m time e b a may = holds_ending (Quiet ⊥) (quiet_here ⊥) (quiet_next ⊥) (λ x r c h. quiet_move ⊥ x (sending_quiet x r) c) m time e b a may
+
+  -- the batch notes a Handshake packet
+  packet_shakes : (m : Meaning t) (time : ℕ) (p : Sent) (g : Going t) → (packet_after m time p g).batch.shook ≡ (g.batch.shook || is_space (number_space p.form) Handshake)
+  unfolding packet_after begun_batch batch_grown
+  packet_shakes m time p g = ap (λ (b : Bool). b || is_space (number_space p.form) Handshake) (opened_shook g.batch p.opens (not ((space_of g.now.state.waiting.spaces (number_space p.form)).probes == 0)))
 
   packet_shook : (m : Meaning t) (time : ℕ) (p : Sent) (g : Going t) → number_space p.form ≡ Handshake → (packet_after m time p g).batch.shook ≡ true
-  unfolding packet_after
-  packet_shook m time p g is = shook_by (number_space p.form) _ _ _ is
+  packet_shook m time p g is = packet_shakes m time p g ∙ or_second g.batch.shook (is_space (number_space p.form) Handshake) (ap (λ (id : SpaceId). is_space id Handshake) is)
 
-  sealed_keyed : (s : View t) (p : Sent) (b : Batch) (time : ℕ) (a : At t) → MayFollow time s b p → seals_initial (sealed_deed p a) ≡ true → has_keys s.keys Initial ≡ true
-  sealed_keyed s p b time a may h =
-      subst (λ (id : SpaceId). has_keys s.keys id ≡ true) (sealed_initial (number_space p.form) _ _ _ p.frames h) (owing_keyed b.closing s (number_space p.form) may.begins.turn.owed)
+  shook_before : (m : Meaning t) (time : ℕ) (p : Sent) (g : Going t) → g.batch.shook ≡ true → (packet_after m time p g).batch.shook ≡ true
+  shook_before m time p g h = packet_shakes m time p g ∙ or_first g.batch.shook (is_space (number_space p.form) Handshake) h
 
-  one_leaves : (side : Side) (m : Meaning t) (time : ℕ) (p : Sent) (e : Ending) (a : At t) → let g : Going t = packet_after m time p (going_from a) in
-      MayFollow time a.state (going_from a).batch p → MayEnd e g.now.state g.batch → Leaves side a (ending_after time e g.batch g.now)
-  one_leaves side m time p e a may ends =
-      let g : Going t = packet_after m time p (going_from a) in
-      let begun : At t = begun_after (number_space p.form) p.opens a in
+  -- behind a Handshake packet no Initial packet has its turn
+  shook_behind : (m : Meaning t) (time : ℕ) (p : Sent) (g : Going t) → is_in_order g.batch.space (number_space p.form) ≡ true → (g.batch.shook ≡ true → is_in_order g.batch.space Initial ≡ false) →
+      (packet_after m time p g).batch.shook ≡ true → is_in_order (packet_after m time p g).batch.space Initial ≡ false
+  unfolding packet_after batch_grown
+  shook_behind m time p g order before shook =
+      either g.batch.shook (is_space (number_space p.form) Handshake) (is_in_order (Some (number_space p.form)) Initial ≡ false)
+      (λ b. late_space g.batch.space (number_space p.form) (before b) order) (λ w. shaking_late (number_space p.form) w) (sym (packet_shakes m time p g) ∙ shook)
+
+  -- packets leave whether the connection has ended
+  alive_move : (x : Move t) → IsPacketMove x → (d : At t) → is_drained (move_to x d).state.life.state ≡ is_drained d.state.life.state
+  unfolding move_to state_move life_move
+  alive_move (Begin id opens) r d = refl
+  alive_move Skip r d = refl
+  alive_move (Spend tokens) r d = refl
+  alive_move (Arm at) r d = refl
+  alive_move _ r d = absurd r
+
+  alive_seal : (time n size : ℕ) (form : Form) (fs : List FrameValue) (d : At t) → is_drained (move_to (Seal time form n size fs) (move_to (Take (number_space form) fs) d)).state.life.state ≡ is_drained d.state.life.state
+  unfolding move_to state_move life_move
+  alive_seal time n size form fs d = refl
+
+  packet_alive : (m : Meaning t) (time : ℕ) (p : Sent) (g : Going t) → MayFollow m time g.now.state g.batch p → is_drained (packet_after m time p g).now.state.life.state ≡ is_drained g.now.state.life.state
+  packet_alive m time p g may =
+      holds_packets (λ (c d : At t). is_drained d.state.life.state ≡ is_drained c.state.life.state) (λ d. refl) (λ d e f h k. k ∙ h) (λ x r d h. alive_move x r d) (λ time form fs d h. alive_seal time _ _ form fs d) m time (p ∷ []) g (may, tt)
+
+  -- what is known of the packets of a transmit so far: an end that had left before them seals no Initial packet, and one that has left behind them
+  -- had before, or is a client, and the batch notes it
+  record Shows (side : Side) (a : At t) (g : Going t) : Type 0 where
+    pub since : List Did
+    pub appended : g.now.did ≡ a.did ++ since
+    pub none : (left : Bool) → (left ≡ true → HasLeft a.state) → NoneInitial side left since
+    pub shown : (left : Bool) → has_left side left since ≡ true → (left ≡ true) ⊎ ((side ≡ Client) × (g.batch.shook ≡ true))
+    pub gone : Gone a → Gone g.now
+    pub alive : is_drained g.now.state.life.state ≡ is_drained a.state.life.state
+    pub same : side_of g.now ≡ side_of a
+    pub some : g.batch.shook ≡ true → 0 < g.batch.made
+    pub behind : g.batch.shook ≡ true → is_in_order g.batch.space Initial ≡ false
+
+  shows_begun : (side : Side) (asked : ℕ) (a : At t) → Shows side a (going_from asked a)
+  shows_begun side asked a = record {
+    since = [];
+    appended = sym (append-nil a.did);
+    none = λ left k. tt;
+    shown = λ left e. inl e;
+    gone = λ h. h;
+    alive = refl;
+    same = refl;
+    some = λ s. absurd cc;
+    behind = λ s. absurd cc;
+  }
+
+  sealed_keyed : (m : Meaning t) (s : View t) (p : Sent) (b : Batch) (time : ℕ) (a : At t) → MayFollow m time s b p → seals_initial (sealed_deed p a) ≡ true → has_keys s.keys Initial ≡ true
+  sealed_keyed m s p b time a may h =
+      subst (λ (id : SpaceId). has_keys s.keys id ≡ true) (sealed_initial (number_space p.form) _ _ _ p.frames h) (owing_keyed b s (number_space p.form) may.begins.turn.owed)
+
+  -- an Initial packet isn't sealed by an end that has left
+  none_left : (side : Side) (m : Meaning t) (time : ℕ) (p : Sent) (a : At t) (g : Going t) (begun : At t) → MayFollow m time g.now.state g.batch p → Shows side a g → seals_initial (sealed_deed p begun) ≡ true → HasLeft a.state → ⊥
+  none_left side m time p a g begun may h seals (inl gone) =
+      let none : has_keys g.now.state.keys Initial ≡ false = h.gone gone in
+      let keyed : has_keys g.now.state.keys Initial ≡ true = sealed_keyed m g.now.state p g.batch time begun may seals in
+      cc
+  none_left side m time p a g begun may h seals (inr ended) =
+      let ends : is_drained g.now.state.life.state ≡ true = h.alive ∙ ended in
+      let alive : is_drained g.now.state.life.state ≡ false = may.begins.turn.alive in
+      cc
+
+  none_behind : (side : Side) (m : Meaning t) (time : ℕ) (p : Sent) (a : At t) (g : Going t) (begun : At t) (left : Bool) → MayFollow m time g.now.state g.batch p → Shows side a g → seals_initial (sealed_deed p begun) ≡ true →
+      (left ≡ true → HasLeft a.state) → (left ≡ true) ⊎ ((side ≡ Client) × (g.batch.shook ≡ true)) → ⊥
+  none_behind side m time p a g begun left may h seals k (inl l) = none_left side m time p a g begun may h seals (k l)
+  none_behind side m time p a g begun left may h seals k (inr both) =
+      let first : is_in_order g.batch.space Initial ≡ true = subst (λ (id : SpaceId). is_in_order g.batch.space id ≡ true) (sealed_initial (number_space p.form) _ _ _ p.frames seals) may.begins.turn.order in
+      let late : is_in_order g.batch.space Initial ≡ false = h.behind both.1 in
+      cc
+
+  shown_before : (side : Side) (m : Meaning t) (time : ℕ) (p : Sent) (g : Going t) (left : Bool) → (left ≡ true) ⊎ ((side ≡ Client) × (g.batch.shook ≡ true)) → (left ≡ true) ⊎ ((side ≡ Client) × ((packet_after m time p g).batch.shook ≡ true))
+  shown_before side m time p g left (inl l) = inl l
+  shown_before side m time p g left (inr both) = inr (both.0, shook_before m time p g both.1)
+
+  shows_packet : (side : Side) (m : Meaning t) (time : ℕ) (p : Sent) (a : At t) (g : Going t) → MayFollow m time g.now.state g.batch p → Shows side a g → Shows side a (packet_after m time p g)
+  shows_packet side m time p a g may h =
+      let begun : At t = begun_after (number_space p.form) p.opens g.now in
       let sealed : Did = sealed_deed p begun in
-      let end : At t = ending_after time e g.batch g.now in
-      let q : Quiet ⊥ g.now end = ending_quiet time e g.batch g.now ends in
-      let made : 0 < g.batch.made = let one = packet_made m time p (going_from a) may in omega (arith, one) in
-      let same : side_of g.now ≡ side_of a = packets_side m time (p ∷ []) (going_from a) (may, tt) in
       record {
-        since = sealed ∷ q.since;
-        appended = q.appended ∙ ap (λ (ds : List Did). ds ++ q.since) (packet_deeds m time p (going_from a)) ∙ append_assoc a.did (sealed ∷ []) q.since;
-        none = λ left is k. (
-          λ seals. not_left left (λ l. let gone : Gone a = k l in let keyed : has_keys a.state.keys Initial ≡ true = sealed_keyed a.state p (going_from a).batch time begun may seals in absurd cc),
-          silent_none ⊥ side (left || leaves_with side sealed) q.since q.silent,
-        );
-        gone = λ left is k left_now. silent_left ⊥ (Gone end) side (left || leaves_with side sealed) q.since q.silent
-            (λ either_way. either left (leaves_with side sealed) (Gone end) (λ l. q.gone (packets_gone m time (p ∷ []) (going_from a) (may, tt) (k l)))
-            (λ leaves. let shakes = sealed_shakes side (number_space p.form) _ _ _ p.frames leaves in ending_gone time e g.batch g.now ends made (same ∙ is ∙ shakes.0) (packet_shook m time p (going_from a) shakes.1)) either_way)
-            (λ p server. absurd p) left_now;
-        same = q.side ∙ same;
+        since = h.since ++ sealed ∷ [];
+        appended = packet_deeds m time p g ∙ ap (λ (ds : List Did). ds ++ sealed ∷ []) h.appended ∙ append_assoc a.did h.since (sealed ∷ []);
+        none = λ left k. none_append side left h.since (sealed ∷ []) (h.none left k)
+            (λ seals. not_left (has_left side left h.since) (λ l. none_behind side m time p a g begun left may h seals k (h.shown left l)), tt);
+        shown = λ left e. either (has_left side left h.since) (leaves_with side sealed) ((left ≡ true) ⊎ ((side ≡ Client) × ((packet_after m time p g).batch.shook ≡ true)))
+            (λ l. shown_before side m time p g left (h.shown left l))
+            (λ w. let shakes = sealed_shakes side (number_space p.form) _ _ _ p.frames w in inr (shakes.0, packet_shook m time p g shakes.1))
+            (sym (left_append side left h.since (sealed ∷ [])) ∙ e);
+        gone = λ z. packets_gone m time (p ∷ []) g (may, tt) (h.gone z);
+        alive = packet_alive m time p g may ∙ h.alive;
+        same = packets_side m time (p ∷ []) g (may, tt) ∙ h.same;
+        some = λ s. packet_made m time p g may;
+        behind = shook_behind m time p g may.begins.turn.order h.behind;
       }
 
-  packets_leave : (side : Side) (m : Meaning t) (time : ℕ) (ps : List Sent) (e : Ending) (a : At t) → let g : Going t = packets_after m time ps (going_from a) in
-      MayAll m time (going_from a) ps → MayEnd e g.now.state g.batch → Leaves side a (ending_after time e g.batch g.now)
-  packets_leave side m time [] e a may ends = quiet_leaves ⊥ side a _ (ending_quiet time e (going_from a).batch a ends) (λ p. absurd p)
-  packets_leave side m time (p ∷ []) e a may ends = one_leaves side m time p e a may.0 ends
-  packets_leave side m time (p ∷ q ∷ ps) e a may ends = let one = packet_made m time p (going_from a) may.0 in let alone = may.1.0.alone in absurd (omega (arith, one, alone))
+  shows_packets : (side : Side) (m : Meaning t) (time : ℕ) (ps : List Sent) (a : At t) (g : Going t) → MayAll m time g ps → Shows side a g → Shows side a (packets_after m time ps g)
+  shows_packets side m time [] a g may h = h
+  shows_packets side m time (p ∷ ps) a g may h = shows_packets side m time ps a (packet_after m time p g) may.1 (shows_packet side m time p a g may.0 h)
 
-  transmit_leaves : (side : Side) (m : Meaning t) (time : ℕ) (choice : Choice) (a : At t) → MayTransmit m time choice a → Leaves side a (transmit_after m time choice a)
+  -- so it is behind them, however the transmit ends
+  shown_left : (side : Side) (m : Meaning t) (time : ℕ) (e : Ending) (a : At t) (g : Going t) (left : Bool) → Shows side a g → MayEnd m time e g.now.state g.batch → (Ended a → Ended (ending_after m time e g.batch g.now)) → side_of a ≡ side →
+      (left ≡ true → HasLeft a.state) → (left ≡ true) ⊎ ((side ≡ Client) × (g.batch.shook ≡ true)) → HasLeft (ending_after m time e g.batch g.now).state
+  shown_left side m time e a g left h ends stays is k (inl l) = either_left a (ending_after m time e g.batch g.now) (λ z. (ending_quiet m time e g.batch g.now ends).gone (h.gone z)) stays (k l)
+  shown_left side m time e a g left h ends stays is k (inr both) = ending_left m time e g.batch g.now ends (h.some both.1) (h.same ∙ is ∙ both.0) both.1
+
+  ends_depart : (side : Side) (m : Meaning t) (time : ℕ) (e : Ending) (a : At t) (g : Going t) → Shows side a g → MayEnd m time e g.now.state g.batch → (Ended a → Ended (ending_after m time e g.batch g.now)) →
+      Departs side a (ending_after m time e g.batch g.now)
+  ends_depart side m time e a g h ends stays =
+      let q : Quiet ⊥ g.now (ending_after m time e g.batch g.now) = ending_quiet m time e g.batch g.now ends in
+      record {
+        since = h.since ++ q.since;
+        appended = q.appended ∙ ap (λ (ds : List Did). ds ++ q.since) h.appended ∙ append_assoc a.did h.since q.since;
+        none = λ left is k. none_append side left h.since q.since (h.none left k) (silent_none ⊥ side (has_left side left h.since) q.since q.silent);
+        gone = λ left is k left_now. silent_left ⊥ (HasLeft (ending_after m time e g.batch g.now).state) side (has_left side left h.since) q.since q.silent
+            (λ l. shown_left side m time e a g left h ends stays is k (h.shown left l)) (λ p server. absurd p) (sym (left_append side left h.since q.since) ∙ left_now);
+        same = q.side ∙ h.same;
+      }
+
+  transmit_departs : (side : Side) (m : Meaning t) (time asked : ℕ) (choice : Choice) (a : At t) → MayTransmit m time asked choice a → (Ended a → Ended (transmit_after m time asked choice a)) → Departs side a (transmit_after m time asked choice a)
   unfolding MayTransmit transmit_after gone_after
-  transmit_leaves side m time choice a may = packets_leave side m time choice.packets choice.ending a may.0 may.1
+  transmit_departs side m time asked choice a may stays =
+      ends_depart side m time choice.ending a (packets_after m time choice.packets (going_from asked a)) (shows_packets side m time choice.packets a (going_from asked a) may.0 (shows_begun side asked a)) may.1 stays
 
   -- ---- inputs, steps and runs
 
@@ -539,39 +554,54 @@ module _ {t : Types} where
   closed_by side time close a true = move_leaves side (Shut time close) tt a
   closed_by side time close a false = leaves_here side a
 
-  input_leaves : (side : Side) (m : Meaning t) (i : Input) (choice : Choice) (a : At t) → IsAllowed m i choice a → Leaves side a (input_after m i choice a)
+  -- a connection that has ended stays so
+  ended_input : (m : Meaning t) (i : Input) (choice : Choice) (a : At t) → IsAllowed m i choice a → Ended a → Ended (input_after m i choice a)
+  ended_input m i choice a may h =
+      let b : At t = input_after m i choice a in
+      let told : Told Initial a b = told_input Initial m i choice a may in
+      let rank : rank_of a.state.life.state ≤ rank_of b.state.life.state = tells_rank Initial (kernel Initial a.state) (kernel Initial b.state) told.since told.tells in
+      let high : 4 ≤ rank_of a.state.life.state = drained_high a.state.life.state h in
+      high_drained b.state.life.state (omega (arith, rank, high))
+
+  input_departs : (side : Side) (m : Meaning t) (i : Input) (choice : Choice) (a : At t) → IsAllowed m i choice a → (Ended a → Ended (input_after m i choice a)) → Departs side a (input_after m i choice a)
   unfolding IsAllowed input_after close_after
-  input_leaves side m (input.Datagram time remote ecn bytes) choice a may = datagram_leaves side m (record { time = time; remote = remote; mark = ecn }) bytes a
-  input_leaves side m (input.Timeout time) choice a may = timeout_leaves side m time a
-  input_leaves side m (input.Transmit time max) choice a may = transmit_leaves side m time choice a may
-  input_leaves side m (input.Close time code reason) choice a may = closed_by side time _ a (is_open a.state.life.state)
-  input_leaves side m (input.Ping time) choice a may = move_leaves side (Ask a.state.keys.highest) tt a
-  input_leaves side m (input.SendDatagram time body) choice a may = move_leaves side (Post (datagrams.Sent (datagram_limit a.state) body)) tt a
-  input_leaves side m (input.RecvDatagram time) choice a may = move_leaves side (Post datagrams.Taken) tt a
-  input_leaves side m (input.Identifiers time given) choice a may = move_leaves side (Issue time given) tt a
-  input_leaves side m i choice a may = called_input (Leaves side) (leaves_here side) (leaves_next side) (λ x b h. move_leaves side (Call x) tt b) i choice.read a may
+  input_departs side m (input.Datagram time remote ecn bytes) choice a may stays = leaves_departs side a _ (datagram_leaves side m (record { time = time; remote = remote; mark = ecn }) bytes a) stays
+  input_departs side m (input.Timeout time) choice a may stays = leaves_departs side a _ (timeout_leaves side m time a) stays
+  input_departs side m (input.Transmit time max) choice a may stays = transmit_departs side m time max choice a may stays
+  input_departs side m (input.Close time code reason) choice a may stays = leaves_departs side a _ (closed_by side time _ a (is_open a.state.life.state)) stays
+  input_departs side m (input.Ping time) choice a may stays = leaves_departs side a _ (move_leaves side (Ask a.state.keys.highest) tt a) stays
+  input_departs side m (input.SendDatagram time body) choice a may stays = leaves_departs side a _ (move_leaves side (Post (datagrams.Sent (datagram_limit a.state) true body)) tt a) stays
+  input_departs side m (input.RecvDatagram time) choice a may stays = leaves_departs side a _ (move_leaves side (Post datagrams.Taken) tt a) stays
+  input_departs side m (input.Identifiers time given) choice a may stays = leaves_departs side a _ (move_leaves side (Issue time given) tt a) stays
+  input_departs side m i choice a may stays = leaves_departs side a _ (called_input (Leaves side) (leaves_here side) (leaves_next side) (λ x b h. move_leaves side (Call x) tt b) i choice.read a may) stays
 
   -- what the law says over deeds
   record LeavesOver (side : Side) (ds : List Did) (s s' : View t) : Type 0 where
-    pub none : (left : Bool) → s.setup.fixed.side ≡ side → (left ≡ true → has_keys s.keys Initial ≡ false) → NoneInitial side left ds
-    pub gone : (left : Bool) → s.setup.fixed.side ≡ side → (left ≡ true → has_keys s.keys Initial ≡ false) → has_left side left ds ≡ true → has_keys s'.keys Initial ≡ false
+    pub none : (left : Bool) → s.setup.fixed.side ≡ side → (left ≡ true → HasLeft s) → NoneInitial side left ds
+    pub gone : (left : Bool) → s.setup.fixed.side ≡ side → (left ≡ true → HasLeft s) → has_left side left ds ≡ true → HasLeft s'
     pub same : s'.setup.fixed.side ≡ s.setup.fixed.side
 
+  same_left : (s v : View t) → has_keys s.keys Initial ≡ has_keys v.keys Initial → is_drained s.life.state ≡ is_drained v.life.state → HasLeft v → HasLeft s
+  same_left s v keys life (inl h) = inl (keys ∙ h)
+  same_left s v keys life (inr h) = inr (life ∙ h)
+
   step_leaves : (side : Side) (m : Meaning t) (k : ℕ) (s : View t) (i : Input) (x : Step) (s' : View t) → IsStep m k s i x s' → LeavesOver side x.did s s'
-  unfolding called began step_after reported state_move keys_move setup_move
+  unfolding called began step_after reported state_move keys_move setup_move life_move ready_reported connected_reported all_heard_reported lost_reported notice_reported notices_reported drained_reported
   step_leaves side m k s i x s' h =
       let a : At t = began s (time_of i) in
-      let leaves : Leaves side a (input_after m i h.choice a) = input_leaves side m i h.choice a h.allowed in
-      let deeds : x.did ≡ leaves.since = h.deeds ∙ leaves.appended in
+      let b : At t = input_after m i h.choice a in
+      let departs : Departs side a b = input_departs side m i h.choice a h.allowed (ended_input m i h.choice a h.allowed) in
+      let deeds : x.did ≡ departs.since = h.deeds ∙ departs.appended in
       record {
-        none = λ left is l. subst (λ (ds : List Did). NoneInitial side left ds) (sym deeds) (leaves.none left is l);
-        gone = λ left is l e. ap (λ v. has_keys v Initial) h.keys ∙ leaves.gone left is l (ap (λ (ds : List Did). has_left side left ds) (sym deeds) ∙ e);
-        same = ap (λ v. v.fixed.side) h.setup ∙ leaves.same;
+        none = λ left is l. subst (λ (ds : List Did). NoneInitial side left ds) (sym deeds) (departs.none left is l);
+        gone = λ left is l e. same_left s' b.state (ap (λ v. has_keys v Initial) h.keys) (ap (λ v. is_drained v.state) h.life)
+            (departs.gone left is l (ap (λ (ds : List Did). has_left side left ds) (sym deeds) ∙ e));
+        same = ap (λ v. v.fixed.side) h.setup ∙ departs.same;
       }
 
   run_over : (side : Side) (m : Meaning t) (k : ℕ) (s : View t) (is : List Input) (xs : List Step) (s' : View t) → Run m k s is xs s' → LeavesOver side (deeds_of xs) s s'
   unfolding Run
-  run_over side m k s [] [] s' r = record { none = λ left is h. tt; gone = λ left is h e. ap (λ (v : View t). has_keys v.keys Initial) r ∙ h e; same = ap (λ (v : View t). v.setup.fixed.side) r }
+  run_over side m k s [] [] s' r = record { none = λ left is h. tt; gone = λ left is h e. subst (λ (v : View t). HasLeft v) (sym r) (h e); same = ap (λ (v : View t). v.setup.fixed.side) r }
   run_over side m k s (i ∷ is) (x ∷ xs) s' r =
       let first : LeavesOver side x.did s r.0 = step_leaves side m k s i x r.0 r.1 in
       let rest : LeavesOver side (deeds_of xs) r.0 s' = run_over side m (k + 1) r.0 is xs s' r.2 in
@@ -586,6 +616,6 @@ module _ {t : Types} where
   pub run_leaves : (m : Meaning t) (k : ℕ) (s : View t) (is : List Input) (xs : List Step) (s' : View t) → Run m k s is xs s' → LeavesInitial (deeds_of xs) s s'
   run_leaves m k s is xs s' r =
       let side : Side = s.setup.fixed.side in
-      let keyless : Bool = not (has_keys s.keys Initial) in
+      let before : is_left s ≡ true → HasLeft s = left_by_test (has_keys s.keys Initial) (is_drained s.life.state) in
       let over : LeavesOver side (deeds_of xs) s s' = run_over side m k s is xs s' r in
-      record { none = over.none keyless refl (no_keys (has_keys s.keys Initial)); gone = over.gone keyless refl (no_keys (has_keys s.keys Initial)); side = over.same }
+      record { none = over.none (is_left s) refl before; gone = λ e. test_of_left (has_keys s'.keys Initial) (is_drained s'.life.state) (over.gone (is_left s) refl before e); side = over.same }

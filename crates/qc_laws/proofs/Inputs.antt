@@ -9,7 +9,7 @@ use Rattle.qc_state.specs.declared.life.State.TheVariants.{Drained}
 use Rattle.qc_state.specs.Forms.{number_space}
 use Rattle.qc_state.specs.Headline.{is_datagram}
 use Rattle.qc_state.specs.Life.{is_open}
-use Rattle.qc_state.specs.Moves.{Move, MayMove, Arm, Ask, Begin, Clock, Finish, Fire, Forget, Give, Pace, Raise, Release, ReportConnected, ReportDrained, ReportLost, ReportReady, ReportNotice, ReportNotices, Say, Seal, Shut, Skip, Take, keys_move, life_move, move_to, numbers_move, state_move, Call, ReportStream, ReportStreams, Post, ReportHeard, ReportAllHeard, Issue, Outlive, Want}
+use Rattle.qc_state.specs.Moves.{Move, MayMove, Arm, Ask, Begin, Clock, Finish, Fire, Forget, Give, Pace, Raise, Release, ReportConnected, ReportDrained, ReportLost, ReportReady, ReportNotice, ReportNotices, Say, Seal, Shut, Skip, Take, keys_move, life_move, move_to, numbers_move, state_move, Call, ReportStream, ReportStreams, Post, ReportHeard, ReportAllHeard, Issue, Outlive, Want, Hold, Spend}
 use Rattle.qc_state.specs.Numbers.{next_number}
 use Rattle.qc_state.specs.Run.{IsAllowed, close_after, input_after, datagram_limit}
 use Rattle.qc_state.specs.Sending.{Choice, packet_size}
@@ -57,7 +57,9 @@ IsOwn Outlive = Unit {0}
 IsOwn (Shut time close) = Unit {0}
 IsOwn (Raise to) = to ≡ Drained
 IsOwn (Give why) = Unit {0}
-IsOwn (Finish bytes) = Unit {0}
+IsOwn (Spend tokens) = Unit {0}
+IsOwn (Hold until) = Unit {0}
+IsOwn (Finish bytes control) = Unit {0}
 IsOwn (Say q) = Unit {0}
 IsOwn (Call x) = Unit {0}
 IsOwn (Post x) = Unit {0}
@@ -83,7 +85,9 @@ sending_own Skip r = tt
 sending_own (Shut time close) r = tt
 sending_own (Raise to) r = r
 sending_own (Give why) r = tt
-sending_own (Finish bytes) r = tt
+sending_own (Spend tokens) r = tt
+sending_own (Hold until) r = tt
+sending_own (Finish bytes control) r = tt
 sending_own (Say q) r = tt
 sending_own _ r = absurd r
 
@@ -140,10 +144,10 @@ module _ {t : Types} (R : At t → At t → Type 0) (here : (a : At t) → R a a
   unfolding IsAllowed input_after close_after MayMove
   holds_own m (input.Datagram time remote ecn bytes) choice a none h = cc
   holds_own m (input.Timeout time) choice a none h = holds_timeout R here next (λ x r. move x (timed_own x r)) m time a
-  holds_own m (input.Transmit time max) choice a none h = holds_transmit R here next (λ x r. move x (sending_own x r)) sealed m time choice a h
+  holds_own m (input.Transmit time max) choice a none h = holds_transmit R here next (λ x r. move x (sending_own x r)) sealed m time max choice a h
   holds_own m (input.Close time code reason) choice a none h = closed_by time _ a _ refl
   holds_own m (input.Ping time) choice a none h = move (Ask a.state.keys.highest) tt a tt
-  holds_own m (input.SendDatagram time body) choice a none h = move (Post (datagrams.Sent (datagram_limit a.state) body)) tt a refl
+  holds_own m (input.SendDatagram time body) choice a none h = move (Post (datagrams.Sent (datagram_limit a.state) true body)) tt a refl
   holds_own m (input.RecvDatagram time) choice a none h = move (Post datagrams.Taken) tt a refl
   holds_own m (input.Identifiers time given) choice a none h = move (Issue time given) tt a h
   holds_own m i choice a none h = called_input R here next (λ x. move (Call x) tt) i choice.read a h

@@ -155,9 +155,9 @@ module _ {t : Types} where
       next a b (move_to seal b) (move_keeps (Take (number_space form) fs) a tt) (move_keeps seal b may.fresh)
 
   -- a transmit
-  transmit_keeps : (m : Meaning t) (time : ℕ) (choice : Choice) (a : At t) → MayTransmit m time choice a → Keeps a (transmit_after m time choice a)
-  transmit_keeps m time choice a may =
-      holds_transmit Keeps here next (λ x r d k. move_keeps x d (sending_spare x d.state r)) (λ at_time id fs d k. packet_keeps at_time id fs d k) m time choice a may
+  transmit_keeps : (m : Meaning t) (time asked : ℕ) (choice : Choice) (a : At t) → MayTransmit m time asked choice a → Keeps a (transmit_after m time asked choice a)
+  transmit_keeps m time asked choice a may =
+      holds_transmit Keeps here next (λ x r d k. move_keeps x d (sending_spare x d.state r)) (λ at_time id fs d k. packet_keeps at_time id fs d k) m time asked choice a may
 
   -- the application closes, or has closed before
   closed_by : (time : ℕ) (close : Close) (a : At t) (b : Bool) → Keeps a (if b then move_to (Shut time close) a else a)
@@ -169,10 +169,10 @@ module _ {t : Types} where
   unfolding IsAllowed input_after close_after
   input_keeps m (input.Datagram time remote ecn bytes) choice a may = holds_datagram Keeps here next (λ x r d k. move_keeps x d (received_spare x d.state r)) m (record { time = time; remote = remote; mark = ecn }) bytes a
   input_keeps m (input.Timeout time) choice a may = holds_timeout Keeps here next (λ x r d k. move_keeps x d (timed_spare x d.state r)) m time a
-  input_keeps m (input.Transmit time max) choice a may = transmit_keeps m time choice a may
+  input_keeps m (input.Transmit time max) choice a may = transmit_keeps m time max choice a may
   input_keeps m (input.Close time code reason) choice a may = closed_by time _ a (is_open a.state.life.state)
   input_keeps m (input.Ping time) choice a may = move_keeps (Ask a.state.keys.highest) a tt
-  input_keeps m (input.SendDatagram time body) choice a may = move_keeps (Post (datagrams.Sent (datagram_limit a.state) body)) a tt
+  input_keeps m (input.SendDatagram time body) choice a may = move_keeps (Post (datagrams.Sent (datagram_limit a.state) true body)) a tt
   input_keeps m (input.RecvDatagram time) choice a may = move_keeps (Post datagrams.Taken) a tt
   input_keeps m (input.Identifiers time given) choice a may = move_keeps (Issue time given) a tt
   input_keeps m i choice a may = called_input Keeps here next (λ x d k. move_keeps (Call x) d tt) i choice.read a may

@@ -3,6 +3,7 @@ use Rattle.std.proofs.Common.{◌≡◌, ℕ, List, refl, ap, sym, ◌∙◌, Bo
 use Rattle.std.specs.Prelude.{Ok}
 use Rattle.qc_base.specs.declared.side.SpaceId.{SpaceId}
 use Rattle.qc_frame.specs.Frame.{AckValue, FrameValue}
+use Rattle.qc_path.specs.Pacing.{Bucket, packet_paced}
 use Rattle.qc_recovery.specs.Steps.{After, FiredAfter}
 use Rattle.qc_state.specs.declared.form.Form.{Form}
 use Rattle.qc_state.specs.declared.coming.Coming.{Coming}
@@ -12,12 +13,12 @@ use Rattle.qc_state.specs.declared.life.Close.{Close}
 use Rattle.qc_state.specs.declared.life.State.TheVariants.{Drained}
 use Rattle.qc_state.specs.Forms.{number_space}
 use Rattle.qc_state.specs.Life.{is_open}
-use Rattle.qc_state.specs.Moves.{Ack, Ask, Clock, Fire, MayMove, Move, Raise, ReportConnected, ReportDrained, ReportLost, ReportReady, ReportNotice, ReportNotices, Seal, Shut, Take, move_to, Call, ReportStream, ReportStreams, Tell, Post, ReportHeard, ReportAllHeard, Issue, Learn}
+use Rattle.qc_state.specs.Moves.{Ack, Ask, Clock, Finish, Fire, MayMove, Move, Raise, ReportConnected, ReportDrained, ReportLost, ReportReady, ReportNotice, ReportNotices, Seal, Shut, Spend, Take, move_to, Call, ReportStream, ReportStreams, Tell, Post, ReportHeard, ReportAllHeard, Issue, Learn}
 use Rattle.qc_state.specs.Numbers.{next_number}
 use Rattle.qc_state.specs.Receiving.{datagram_after}
 use Rattle.qc_state.specs.Recovering.{fired_by, settled_by}
 use Rattle.qc_state.specs.Run.{IsAllowed, close_after, input_after, datagram_limit}
-use Rattle.qc_state.specs.Sending.{Choice, packet_size}
+use Rattle.qc_state.specs.Sending.{Choice, packet_size, rate_of, spent_after, told_sent}
 use Rattle.qc_state.specs.Types.{Types, Meaning}
 use Rattle.qc_state.specs.View.{View, At}
 use Rattle.qc_state.proofs.Expired.{IsExpiry, holds_expired}
@@ -26,7 +27,7 @@ use Rattle.qc_state.proofs.PacketMoves.{IsInPacket, IsSettledOf, OpenPacket, IsG
 use Rattle.qc_state.proofs.ReceivedMoves.{IsOutside, IsUnread}
 use Rattle.qc_laws.proofs.Receives.{datagram_holds}
 use Rattle.qc_state.proofs.Telling.{open_rank}
-use Rattle.qc_state.proofs.Transmitted.{IsSealable, IsSending, holds_transmit}
+use Rattle.qc_state.proofs.Transmitted.{IsSealable, IsUntold, transmit_told}
 use Rattle.qc_laws.proofs.StreamCalls.{called_input}
 use Rattle.qc_state.specs.declared.deeds.Did.{Did}
 use Rattle.qc_state.specs.declared.deeds.Did.TheVariants as did
@@ -70,9 +71,23 @@ module _ {t : Types} where
     pub time : ℕ
     pub is : after ≡ fired_by m time s
 
+  -- the pacer is left with what a packet leaves that it spends at a time
+  pub record IsSpentBy (m : Meaning t) (tokens : Bucket) (s : View t) : Type 0 where
+    pub time : ℕ
+    pub size : ℕ
+    pub is : tokens ≡ packet_paced time (rate_of m s) size s.paths.current.kept.pacing
+
+  -- the controller is left as it is once it is told what was sent
+  pub record IsToldBy (m : Meaning t) (control : t.C) (s : View t) : Type 0 where
+    pub time : ℕ
+    pub bytes : ℕ
+    pub last : ℕ
+    pub is : control ≡ m.control.after_sent s.paths.current.kept.congestion time bytes last
+
   -- what is known of a move that an input makes, beside those with which a packet is taken and sealed: it is no report, a life that rises
   -- by itself rises to its end, parameters are those that the session gives, what acknowledgements and the loss timer leave is what recovery
-  -- makes of them, and what is told by itself is no gift to the streams or to the ids
+  -- makes of them, what the pacer and the controller are left with is what they make of a packet and of what was sent, and what is told by
+  -- itself is no gift to the streams or to the ids
   abbrev pub IsKnownMove : Meaning t → Move t → View t → Type 0
   IsKnownMove m (Clock time) s = ⊥
   IsKnownMove m (Take id fs) s = ⊥
@@ -80,6 +95,8 @@ module _ {t : Types} where
   IsKnownMove m (Ack id n after) s = IsSettledBy m id after s
   IsKnownMove m (Fire after) s = IsFiredBy m after s
   IsKnownMove m (Raise to) s = to ≡ Drained
+  IsKnownMove m (Spend tokens) s = IsSpentBy m tokens s
+  IsKnownMove m (Finish bytes control) s = IsToldBy m control s
   IsKnownMove m (Learn parameters) s = m.parameters s.lower.session ≡ Ok (Some parameters)
   IsKnownMove m (Tell d) s = IsElsewhere d
   IsKnownMove m ReportReady s = ⊥
@@ -105,6 +122,8 @@ module _ {t : Types} where
   packet_known m o (Ack id n after) s h = settled_known m o id n after s h
   packet_known m o (Fire after) s h = absurd h
   packet_known m o (Raise to) s h = absurd h
+  packet_known m o (Spend tokens) s h = absurd h
+  packet_known m o (Finish bytes control) s h = absurd h
   packet_known m o (Learn parameters) s h = h
   packet_known m o (Tell d) s h = told_elsewhere o d s h
   packet_known m o ReportReady s h = absurd h
@@ -127,6 +146,8 @@ module _ {t : Types} where
   outside_known m at_time (Ack id n after) s h = absurd h
   outside_known m at_time (Fire after) s h = absurd h
   outside_known m at_time (Raise to) s h = h
+  outside_known m at_time (Spend tokens) s h = absurd h
+  outside_known m at_time (Finish bytes control) s h = absurd h
   outside_known m at_time (Learn parameters) s h = absurd h
   outside_known m at_time (Tell d) s h = unread_elsewhere d h
   outside_known m at_time ReportReady s h = absurd h
@@ -149,6 +170,8 @@ module _ {t : Types} where
   expiry_known m (Ack id n after) s h = absurd h
   expiry_known m (Fire after) s h = absurd h
   expiry_known m (Raise to) s h = h
+  expiry_known m (Spend tokens) s h = absurd h
+  expiry_known m (Finish bytes control) s h = absurd h
   expiry_known m (Learn parameters) s h = absurd h
   expiry_known m (Tell d) s h = absurd h
   expiry_known m ReportReady s h = absurd h
@@ -164,13 +187,15 @@ module _ {t : Types} where
   expiry_known m _ s h = tt
 
   -- and of those of a transmit
-  pub sending_known : (m : Meaning t) (x : Move t) (s : View t) → IsSending x → IsKnownMove m x s
+  pub sending_known : (m : Meaning t) (x : Move t) (s : View t) → IsUntold x → IsKnownMove m x s
   sending_known m (Clock time) s h = absurd h
   sending_known m (Take id fs) s h = absurd h
   sending_known m (Seal time form n size fs) s h = absurd h
   sending_known m (Ack id n after) s h = absurd h
   sending_known m (Fire after) s h = absurd h
   sending_known m (Raise to) s h = h
+  sending_known m (Spend tokens) s h = absurd h
+  sending_known m (Finish bytes control) s h = absurd h
   sending_known m (Learn parameters) s h = absurd h
   sending_known m (Tell d) s h = absurd h
   sending_known m ReportReady s h = absurd h
@@ -228,7 +253,7 @@ expiry_uncalled (Post x) h = absurd h
 expiry_uncalled (Issue time given) h = absurd h
 expiry_uncalled _ h = tt
 
-sending_uncalled : {t : Types} (x : Move t) → IsSending x → IsUncalled x
+sending_uncalled : {t : Types} (x : Move t) → IsUntold x → IsUncalled x
 sending_uncalled (Call x) h = absurd h
 sending_uncalled (Post x) h = absurd h
 sending_uncalled (Issue time given) h = absurd h
@@ -254,11 +279,14 @@ module _ {t : Types} (m : Meaning t) (R : At t → At t → Type 0) (here : (a :
 
   -- each input
   pub known_other : (i : Input) (choice : Choice) (a : At t) → is_called i ≡ false → IsAllowed m i choice a → R a (input_after m i choice a)
-  unfolding IsAllowed input_after close_after MayMove
+  unfolding IsAllowed input_after close_after spent_after told_sent MayMove
   known_other (input.Datagram time remote ecn bytes) choice a none h = known_datagram (record { time = time; remote = remote; mark = ecn }) bytes a
   known_other (input.Timeout time) choice a none h =
       holds_expired m R here next (λ at_time b. move (Fire (fired_by m at_time b.state)) b (record { time = at_time; is = refl }) tt tt) (λ x e b may. move x b (expiry_known m x b.state e) (expiry_uncalled x e) may) time a
-  known_other (input.Transmit time max) choice a none h = holds_transmit R here next (λ x r b may. move x b (sending_known m x b.state r) (sending_uncalled x r) may) seal m time choice a h
+  known_other (input.Transmit time max) choice a none h =
+      transmit_told m R here next (λ x r b may. move x b (sending_known m x b.state r) (sending_uncalled x r) may)
+      (λ at_time size b. move (Spend _) b (record { time = at_time; size = size; is = refl }) tt tt)
+      (λ at_time batch b. move (Finish batch.total _) b (record { time = at_time; bytes = batch.total; last = batch.last; is = refl }) tt tt) seal time max choice a h
   known_other (input.Close time code reason) choice a none h = closed_by time _ a _ refl
   known_other (input.Ping time) choice a none h = move (Ask a.state.keys.highest) a tt tt tt
   known_other _ choice a none h = cc
@@ -277,7 +305,7 @@ module _ {t : Types} (m : Meaning t) (R : At t → At t → Type 0) (here : (a :
   known_input (input.Transmit time max) choice a h = other (input.Transmit time max) choice a refl h
   known_input (input.Close time code reason) choice a h = other (input.Close time code reason) choice a refl h
   known_input (input.Ping time) choice a h = other (input.Ping time) choice a refl h
-  known_input (input.SendDatagram time body) choice a h = move (Post (datagrams.Sent (datagram_limit a.state) body)) a tt refl
+  known_input (input.SendDatagram time body) choice a h = move (Post (datagrams.Sent (datagram_limit a.state) true body)) a tt refl
   known_input (input.RecvDatagram time) choice a h = move (Post datagrams.Taken) a tt refl
   known_input (input.Identifiers time given) choice a h = move (Issue time given) a tt h
   known_input i choice a h = called_input R here next (λ x b may. move (Call x) b tt may) i choice.read a h

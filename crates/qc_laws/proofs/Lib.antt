@@ -32,6 +32,7 @@ pub mod PostsFold
 pub mod PostsSealed
 pub mod PostsTaken
 pub mod Receives
+pub mod SpacesApart
 pub mod Steps
 pub mod Told
 pub mod ToldReceiving
@@ -39,6 +40,7 @@ pub mod WholeDatagrams
 pub mod EndsHold
 pub mod KnownMoves
 pub mod Recovers
+pub mod InitialDeeds
 pub mod InitialLeft
 pub mod CryptoBuffers
 pub mod CryptoKept
@@ -65,3 +67,4 @@ pub mod TimerProbes
 pub mod TimerMoves
 pub mod TimerHolds
 pub mod TimerBegins
+pub mod WindowHolds

@@ -14,7 +14,7 @@ use Rattle.qc_state.specs.declared.life.Close.TheVariants.{Connection, Applicati
 use Rattle.qc_state.specs.declared.waiting.SpaceWaiting.{SpaceWaiting}
 use Rattle.qc_state.specs.Life.{is_closed}
 use Rattle.qc_laws.specs.MarkLaws.{AcksTell}
-use Rattle.qc_state.specs.Sending.{Carries, Closes, application_close, close_frame, closing_frame, told_close, padding_of, padded}
+use Rattle.qc_state.specs.Sending.{Carries, Closes, application_close, close_frame, closing_frame, told_close}
 use Rattle.qc_state.specs.Spaces.{space_of}
 use Rattle.qc_state.specs.Types.{Types}
 use Rattle.qc_state.specs.View.{View}
@@ -97,6 +97,10 @@ part_tells time w room acks true (AckPart.one ack says fits is) = subst (AcksTel
 part_tells time w room acks true (AckPart.left_out ack says long is) = subst (AcksTell (told_counts w.marks)) (sym is) tt
 part_tells time w room acks false (AckPart.none is) = subst (AcksTell (told_counts w.marks)) (sym is) tt
 
+-- frames with PADDING behind them tell no others
+padded_tells : (counts : Option EcnCounts) (n : ℕ) (fs gs : List FrameValue) → fs ≡ gs ++ replicate n frames.Padding → AcksTell counts gs → AcksTell counts fs
+padded_tells counts n fs gs is told = subst (AcksTell counts) (sym is) (tell_append counts gs (replicate n frames.Padding) told (padding_tells counts n))
+
 module _ {t : Types} where
   -- a frame that waits in a space tells its counts
   first_tells : (time : ℕ) (s : View t) (id : SpaceId) (f : FrameValue) (fs : List FrameValue) → Waits time s id f → AcksTell (told_counts (space_of s.waiting.spaces id).marks) fs →
@@ -121,14 +125,9 @@ module _ {t : Types} where
       let counts : Option EcnCounts = told_counts w.marks in
       subst (AcksTell counts) (sym is) (tell_append counts acks (closing_frame id kept s.life ∷ []) (part_tells time w _ acks _ part) (close_tells counts (is_closed s.life.state) id kept s.life.close))
 
-  -- frames with PADDING behind them tell no others
-  padded_tells : (counts : Option EcnCounts) (s : View t) (form : Form) (fs gs : List FrameValue) → fs ≡ padded s form gs → AcksTell counts gs → AcksTell counts fs
-  unfolding padded
-  padded_tells counts s form fs gs is told = subst (AcksTell counts) (sym is) (tell_append counts gs (replicate (padding_of s form gs) frames.Padding) told (padding_tells counts (padding_of s form gs)))
-
   -- what a packet carries tells the counts of its space
   pub carries_tells : (closing : Bool) (time : ℕ) (s : View t) (form : Form) (room : ℕ) (fs : List FrameValue) → Carries closing time s form room fs → AcksTell (told_counts (space_of s.waiting.spaces (number_space form)).marks) fs
-  carries_tells closing time s form room fs (Carries.a_close owed gs closes is) =
-      padded_tells (told_counts (space_of s.waiting.spaces (number_space form)).marks) s form fs gs is (closes_tell time s (number_space form) room gs closes)
-  carries_tells closing time s form room fs (Carries.what_waits free gs wait some is) =
-      padded_tells (told_counts (space_of s.waiting.spaces (number_space form)).marks) s form fs gs is (wait_tells time s (number_space form) gs wait)
+  carries_tells closing time s form room fs (Carries.a_close owed gs n closes is) =
+      padded_tells (told_counts (space_of s.waiting.spaces (number_space form)).marks) n fs gs is (closes_tell time s (number_space form) room gs closes)
+  carries_tells closing time s form room fs (Carries.what_waits free gs n wait is) =
+      padded_tells (told_counts (space_of s.waiting.spaces (number_space form)).marks) n fs gs is (wait_tells time s (number_space form) gs wait)

@@ -30,7 +30,7 @@ use Rattle.qc_state.specs.Acks.{is_ack, told_counts}
 use Rattle.qc_state.specs.Forms.{number_space}
 use Rattle.qc_state.specs.Life.{is_open, is_over}
 use Rattle.qc_laws.specs.MarkLaws.{AcksTell, DeedsTell, EachTold, SealsTold, StepsTell, Tally, carried_mark, nothing_tallied, tally_accepted, tally_behind, tally_judged, tally_of, tally_since, tally_told}
-use Rattle.qc_state.specs.Moves.{Move, Clock, Ask, Take, Seal, Forget, Enter, Expect, Fail, Accept, Fix, Hear, Ack, Fire, Arm, Pace, Release, Begin, Skip, Come, Read, Write, Ready, Token, Learn, Want, Confirm, Establish, Tell, PeerClosesToo, PeerCloses, Owe, Shut, Raise, Give, Say, Finish, ReportReady, ReportConnected, ReportLost, ReportNotice, ReportNotices, ReportDrained, accepts, enters, state_move, move_to, deeds_move, waiting_move, numbers_move, keys_move, life_move, MayMove, IsTold, told, Hand, Call, ReportStream, ReportStreams, told_to_streams, Post, ReportHeard, ReportAllHeard, Insert, Switch, Retire, Issue, Outlive}
+use Rattle.qc_state.specs.Moves.{Move, Clock, Ask, Take, Seal, Forget, Enter, Expect, Fail, Accept, Fix, Hear, Ack, Fire, Arm, Pace, Release, Begin, Skip, Come, Read, Write, Ready, Token, Learn, Want, Confirm, Establish, Tell, PeerClosesToo, PeerCloses, Owe, Shut, Raise, Give, Say, Finish, ReportReady, ReportConnected, ReportLost, ReportNotice, ReportNotices, ReportDrained, accepts, enters, state_move, move_to, deeds_move, waiting_move, numbers_move, keys_move, life_move, MayMove, IsTold, told, Hand, Call, ReportStream, ReportStreams, told_to_streams, Post, ReportHeard, ReportAllHeard, Insert, Switch, Retire, Issue, Outlive, Hold, Spend}
 use Rattle.qc_state.specs.Numbers.{next_number}
 use Rattle.qc_state.specs.Offers.{packet_begun}
 use Rattle.qc_state.proofs.Probed.{begun_holds}
@@ -40,7 +40,7 @@ use Rattle.qc_state.specs.Sending.{Choice, MayTransmit, packet_size, transmit_af
 use Rattle.qc_state.specs.Spaces.{space_of, with_space, is_space}
 use Rattle.qc_state.specs.Types.{Types, Meaning}
 use Rattle.qc_state.specs.View.{View, At}
-use Rattle.qc_state.specs.Waiting.{done_asked, ping_asked, waiting_without, close_begun, counts_begun, mark_counted, packet_told, untold, packets_lost, lost_in, packets_acked, acked_in, fired_in, probes_added, probe_spent, frames_again, all_again, came_in, packet_came, crypto_written, nothing_left, space_left, released, ack_released, bundle_next}
+use Rattle.qc_state.specs.Waiting.{done_asked, ping_asked, waiting_without, close_begun, counts_begun, mark_counted, packet_told, packets_lost, lost_in, packets_acked, acked_in, fired_in, probes_added, probe_spent, frames_again, all_again, came_in, packet_came, crypto_written, nothing_left, space_left, released, ack_released, bundle_next}
 use Rattle.qc_state.proofs.Expired.{IsTimed, holds_timeout}
 use Rattle.qc_laws.proofs.MarksKept.{acked_keeps, all_again_keeps, carries_tells, lost_keeps, without_all_keeps}
 use Rattle.qc_state.proofs.OpenPackets.{holds_packet, packet_received}
@@ -144,22 +144,14 @@ taken_marks : (id space : SpaceId) (v : Waiting) (fs : List FrameValue) → Mark
 unfolding waiting_without
 taken_marks id space v fs = same_marks id space v _ (without_all_keeps (space_of v.spaces space) fs)
 
--- a close begins to be owed
-begun_marks : (id : SpaceId) (v : Waiting) (b : Bool)
-    → MarksOf id (if b then v else record v { spaces = record { initial = untold v.spaces.initial; handshake = untold v.spaces.handshake; application = untold v.spaces.application }; close_owed = true }) ≡ MarksOf id v
-begun_marks id v true = refl
-begun_marks Initial v false = refl
-begun_marks Handshake v false = refl
-begun_marks Data v false = refl
-
 -- a packet was sealed
 bundle_marks : (id : SpaceId) (v : Waiting) (next : ℕ) (b : Bool) → MarksOf id (if b then record v { bundled = Some next } else v) ≡ MarksOf id v
 bundle_marks id v next true = refl
 bundle_marks id v next false = refl
 
-sealed_marks : (id space : SpaceId) (v : Waiting) (last : Bool) (fs : List FrameValue) (next : ℕ) → MarksOf id (bundle_next (packet_told v space last) fs next) ≡ MarksOf id v
+sealed_marks : (id : SpaceId) (v : Waiting) (last : Bool) (fs : List FrameValue) (next : ℕ) → MarksOf id (bundle_next (packet_told v last) fs next) ≡ MarksOf id v
 unfolding bundle_next packet_told
-sealed_marks id space v last fs next = bundle_marks id (packet_told v space last) next (list_any is_ack fs) ∙ same_marks id space v (record (space_of v.spaces space) { told = true }) refl
+sealed_marks id v last fs next = bundle_marks id (packet_told v last) next (list_any is_ack fs)
 
 -- an ACK that was held back is owed
 released_marks : (id : SpaceId) (v : Waiting) → MarksOf id (ack_released v) ≡ MarksOf id v
@@ -319,7 +311,7 @@ module _ {t : Types} where
   counted_move id mark (Seal time form n size fs) a h k =
       let told_now : (y : Tally) → Fits y (MarksOf id a.state.waiting) → is_space id (number_space form) ≡ true → AcksTell (tally_told y) fs =
       λ y f same. subst (λ (c : Option EcnCounts). AcksTell c fs) (sym (fits_told y (MarksOf id a.state.waiting) f)) (told_there id (number_space form) a.state.waiting fs k same) in
-      deed_counted id mark (Seal time form n size fs) _ a refl told_now (λ y f. subst (Fits y) (sym (sealed_marks id (number_space form) a.state.waiting _ fs _)) f)
+      deed_counted id mark (Seal time form n size fs) _ a refl told_now (λ y f. subst (Fits y) (sym (sealed_marks id a.state.waiting _ fs _)) f)
   counted_move id mark (Forget space) a h k = silent_counted id mark (Forget space) a refl (same_marks id space a.state.waiting _ refl)
   counted_move id mark (Expect token) a h k = silent_counted id mark (Expect token) a refl refl
   counted_move id mark (Enter space n v) a h k = plain_counted id mark (Enter space n v) _ a refl (λ y. tt) (λ y. judged_same id mark (Some space) v y k) refl
@@ -346,11 +338,13 @@ module _ {t : Types} where
   counted_move id mark (Tell d) a h k = tell_counted id mark d a h
   counted_move id mark PeerClosesToo a h k = plain_counted id mark PeerClosesToo _ a refl (λ y. tt) (λ y. refl) refl
   counted_move id mark (PeerCloses time) a h k = plain_counted id mark (PeerCloses time) _ a refl (λ y. tt) (λ y. refl) refl
-  counted_move id mark Owe a h k = silent_counted id mark Owe a refl (begun_marks id a.state.waiting a.state.waiting.close_owed)
-  counted_move id mark (Shut time close) a h k = plain_counted id mark (Shut time close) _ a refl (λ y. tt) (λ y. refl) (begun_marks id a.state.waiting a.state.waiting.close_owed)
+  counted_move id mark Owe a h k = silent_counted id mark Owe a refl refl
+  counted_move id mark (Shut time close) a h k = plain_counted id mark (Shut time close) _ a refl (λ y. tt) (λ y. refl) refl
   counted_move id mark (Raise to) a h k = plain_counted id mark (Raise to) _ a refl (λ y. tt) (λ y. refl) refl
   counted_move id mark (Give why) a h k = plain_counted id mark (Give why) _ a refl (λ y. tt) (λ y. refl) refl
-  counted_move id mark (Finish bytes) a h k = silent_counted id mark (Finish bytes) a refl refl
+  counted_move id mark (Spend tokens) a h k = silent_counted id mark (Spend tokens) a refl refl
+  counted_move id mark (Hold until) a h k = silent_counted id mark (Hold until) a refl refl
+  counted_move id mark (Finish bytes control) a h k = silent_counted id mark (Finish bytes control) a refl refl
   counted_move id mark (Say q) a h k = plain_counted id mark (Say q) _ a refl (λ y. tt) (λ y. refl) refl
   counted_move id mark (Hand frame) a h k = handed_counted id mark frame a
   counted_move id mark (Insert new) a h k = plain_counted id mark (Insert new) _ a refl (λ y. tt) (λ y. refl) refl
@@ -418,10 +412,10 @@ module _ {t : Types} where
       (counted_move id None (Seal time form (next_number a.state.numbers (number_space form)) (packet_size a.state form fs) fs) b (refl, may.closes, may.alive, may.keyed) said)
 
   -- a transmit
-  counted_transmit : (id : SpaceId) (m : Meaning t) (time : ℕ) (choice : Choice) (a : At t) → MayTransmit m time choice a → Counted id None a (transmit_after m time choice a)
-  counted_transmit id m time choice a may =
+  counted_transmit : (id : SpaceId) (m : Meaning t) (time asked : ℕ) (choice : Choice) (a : At t) → MayTransmit m time asked choice a → Counted id None a (transmit_after m time asked choice a)
+  counted_transmit id m time asked choice a may =
       holds_transmit (Counted id None) (counted_here id None) (counted_next id None) (λ x sends b h. counted_move id None x b h (sending_telling x b.state sends))
-      (λ at_time space fs b h. counted_sealed id at_time space fs b h) m time choice a may
+      (λ at_time space fs b h. counted_sealed id at_time space fs b h) m time asked choice a may
 
   -- the application closes, or has closed before
   closed_by : (id : SpaceId) (time : ℕ) (close : Close) (a : At t) (b : Bool) → is_open a.state.life.state ≡ b → Counted id None a (if b then move_to (Shut time close) a else a)
@@ -447,10 +441,10 @@ module _ {t : Types} where
   counted_input id m (input.Datagram time remote ecn bytes) choice a h = counted_datagram id m (record { time = time; remote = remote; mark = ecn }) bytes a
   counted_input id m (input.Timeout time) choice a h =
       holds_timeout (Counted id None) (counted_here id None) (counted_next id None) (λ x timed b may. counted_move id None x b may (timed_telling x b.state timed)) m time a
-  counted_input id m (input.Transmit time max) choice a h = counted_transmit id m time choice a h
+  counted_input id m (input.Transmit time max) choice a h = counted_transmit id m time max choice a h
   counted_input id m (input.Close time code reason) choice a h = closed_by id time _ a _ refl
   counted_input id m (input.Ping time) choice a h = counted_move id None (Ask a.state.keys.highest) a tt tt
-  counted_input id m (input.SendDatagram time body) choice a h = counted_move id None (Post (datagrams.Sent (datagram_limit a.state) body)) a refl tt
+  counted_input id m (input.SendDatagram time body) choice a h = counted_move id None (Post (datagrams.Sent (datagram_limit a.state) true body)) a refl tt
   counted_input id m (input.RecvDatagram time) choice a h = counted_move id None (Post datagrams.Taken) a refl tt
   counted_input id m (input.Identifiers time given) choice a h = counted_move id None (Issue time given) a h tt
   counted_input id m i choice a h = called_input (Counted id None) (counted_here id None) (counted_next id None) (λ x b may. counted_move id None (Call x) b may tt) i choice.read a h

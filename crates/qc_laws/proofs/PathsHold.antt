@@ -3,7 +3,8 @@ use Rattle.std.proofs.Common.{◌≡◌, ℕ, ◌+◌, ◌*◌, ◌<◌, ◌≤�
 use Rattle.std.proofs.lemmas.Bool.Decides.{nat_tests}
 use Rattle.std.proofs.lemmas.List.{append_assoc, append-nil}
 use Rattle.std.proofs.lemmas.List.Folds.{list_any-append}
-use Rattle.std.specs.Prelude.{◌&&◌, ◌||◌, not, nat_le, is_none}
+use Rattle.std.specs.Prelude.{◌&&◌, ◌||◌, ◌-◌, ◌==◌, not, nat_le, is_none}
+use Rattle.qc_base.specs.Time.{plus}
 use Rattle.std.specs.List.{list_any}
 use Rattle.std.specs.declared.net.SocketAddr.{SocketAddr}
 use Rattle.qc_base.specs.declared.side.Side.{Side}
@@ -20,7 +21,7 @@ use Rattle.qc_state.specs.declared.deeds.Did.{Did}
 use Rattle.qc_state.specs.declared.deeds.Did.TheVariants as did
 use Rattle.qc_state.specs.declared.deeds.Verdict.{Verdict}
 use Rattle.qc_state.specs.declared.deeds.Verdict.TheVariants as verdict
-use Rattle.qc_state.specs.declared.deeds.Quiet.TheVariants.{Killed}
+use Rattle.qc_state.specs.declared.deeds.Quiet.TheVariants.{Killed, Pacing}
 use Rattle.qc_state.specs.declared.input.Input.{Input}
 use Rattle.qc_state.specs.declared.input.Input.TheVariants as input
 use Rattle.qc_state.specs.declared.life.Close.{Close}
@@ -28,19 +29,21 @@ use Rattle.qc_state.specs.declared.life.Close.TheVariants as close
 use Rattle.qc_state.specs.declared.life.ConnectionError.{ConnectionError}
 use Rattle.qc_state.specs.declared.life.ConnectionError.TheVariants as lost
 use Rattle.qc_state.specs.declared.life.State.TheVariants.{Drained}
+use Rattle.qc_state.specs.declared.paths.Path.{Path}
 use Rattle.qc_state.specs.declared.paths.Paths.{Paths}
 use Rattle.qc_state.specs.declared.trace.Step.{Step}
 use Rattle.qc_state.specs.declared.transmit.TheConstants.{DATAGRAM_SIZE}
 use Rattle.qc_state.specs.Forms.{number_space}
 use Rattle.qc_state.specs.Life.{is_open}
-use Rattle.qc_state.specs.Moves.{Accept, Ack, Arm, Come, Confirm, PeerClosesToo, Enter, Establish, Expect, Fail, Fire, Fix, Forget, Give, Hear, Learn, PeerCloses, MayMove, Move, Owe, Pace, Raise, Read, Ready, Release, Say, Seal, Shut, Take, Tell, Token, Want, Write, armed_after, armed_with, deeds_move, move_to, paths_move, state_move, told, Begin, Skip, Hand, told_to_streams, Insert, Switch, Retire, Outlive}
+use Rattle.qc_state.specs.Moves.{Accept, Ack, Arm, Come, Confirm, PeerClosesToo, Enter, Establish, Expect, Fail, Fire, Fix, Forget, Give, Hear, Learn, PeerCloses, MayMove, Move, Owe, Pace, Raise, Read, Ready, Release, Say, Seal, Shut, Take, Tell, Token, Want, Write, armed_after, armed_with, deeds_move, move_to, paths_move, state_move, told, Begin, Skip, Hand, told_to_streams, Insert, Switch, Retire, Outlive, Spend}
 use Rattle.qc_state.specs.Numbers.{next_number, received_number}
 use Rattle.qc_state.specs.Headline.{deeds_of}
-use Rattle.qc_laws.specs.PathLaws.{PathHolds, all_from, bytes_from, is_handshake_admitted}
-use Rattle.qc_state.specs.Paths.{is_blocked, path_accepted, path_idle, path_kept, path_received, path_sent, path_spun, peer_fixed, same_address, spun_by, path_named}
+use Rattle.qc_laws.specs.PathLaws.{IsLimited, PathHolds, all_from, bytes_from, is_handshake_admitted}
+use Rattle.qc_state.specs.Paths.{is_blocked, is_blocked_behind, path_accepted, path_kept, path_quiet, path_received, path_sent, path_spun, peer_fixed, same_address, spun_by, path_named}
 use Rattle.qc_state.specs.Receiving.{counted_after, cut_of, datagram_after, first_after, first_token, heard_after, is_readable, lets_in, pieces_after}
 use Rattle.qc_state.specs.Run.{IsAllowed, IsStep, Run, began, called, close_after, input_after, reported, step_after, time_of, called_all}
-use Rattle.qc_state.specs.Sending.{MayTransmit, drops_initial, initial_left, packet_size, spared_after, transmit_after, Choice, Sent, Ending, Went, Hushed, Died, ending_after, packets_after, Going, going_from, MayAll, MayEnd, handshake_left, finished_after, gone_after}
+use Rattle.qc_state.specs.Sending.{MayFollow, MayStand, MayTransmit, batch_grown, batch_opened, begun_after, begun_batch, drops_initial, initial_left, next_segment, packet_after, packet_size, spared_after, transmit_after, Choice, Sent, Ending, Went, Held, Hushed, Died, ending_after, packets_after, Going, going_from, MayAll, MayEnd, handshake_left, finished_after, gone_after, held_after, told_sent}
+use Rattle.qc_state.specs.Spaces.{space_of}
 use Rattle.qc_state.specs.Stopping.{given_after, key_limit_error, killed_after, stopped_after}
 use Rattle.qc_state.specs.Setup.{is_first_awaited}
 use Rattle.qc_state.specs.Timeouts.{timeout_after}
@@ -49,10 +52,12 @@ use Rattle.qc_state.specs.View.{View, At, at}
 use Rattle.qc_state.proofs.Expired.{IsTimed, holds_timeout}
 use Rattle.qc_state.proofs.ReceivedMoves.{IsOfPiece}
 use Rattle.qc_laws.proofs.Receives.{holds_pieces}
+use Rattle.qc_state.proofs.Quieted.{held_paths, quiet_current}
 use Rattle.qc_state.specs.declared.deeds.Quiet.{Quiet}
 use Rattle.qc_state.specs.declared.transmit.Batch.{Batch}
-use Rattle.qc_state.proofs.Transmitted.{IsPacketMove, IsSealable, holds_packets}
-use Rattle.qc_state.proofs.Batches.{packet_made, packet_total}
+use Rattle.qc_state.proofs.Transmitted.{IsPacketMove, IsSealable, free_behind, holds_packets}
+use Rattle.qc_state.proofs.Batches.{opened_filled, opened_most, opened_total}
+use Rattle.qc_state.proofs.Begun.{begun_same}
 use Rattle.qc_laws.proofs.StreamCalls.{called_input}
 use Rattle.qc_state.proofs.Telling.{told_appends}
 use Rattle.qc_state.specs.Streams.{MayRead, calls_of}
@@ -179,10 +184,9 @@ heard_path came ds p q h shown = record {
   limited = λ r l not_yet. let few : p.current.sent < 3 * p.current.received + DATAGRAM_SIZE = l (was_not p.current.validated q.current.validated h.kept not_yet) in omega (arith, few, h.received, h.sent, r);
 }
 
--- what there is to send holds sending back
-idle_path : {C : Type 0} → (came : ℕ) (ds : List Did) (p : Paths C) → KeepsPath came ds p (path_idle p)
-unfolding path_idle
-idle_path came ds p = still_holds came ds p (path_idle p) (record { same = refl; received = refl; sent = refl; kept = λ v. v }) (λ v. inl v)
+-- a transmit sent nothing
+quiet_path : {C : Type 0} → (came : ℕ) (ds : List Did) (p : Paths C) (q : Quiet) → KeepsPath came ds p (path_quiet p q)
+quiet_path {C} came ds p q = subst (λ (x : Path C). PathHolds came ds p.current x) (sym (quiet_current p q)) (unchanged came ds p)
 
 -- of two tests that hold the second holds
 second_holds : (a b : Bool) → (a && b) ≡ true → b ≡ true
@@ -193,26 +197,103 @@ second_holds false b h = cc
 came_length : (remote from : SocketAddr) (bytes : List ℕ) → same_address remote from ≡ true → (if same_address remote from then length bytes else 0) ≡ length bytes
 came_length remote from bytes h = ap (λ (b : Bool). if b then length bytes else 0) h
 
--- a datagram is sent on a path that isn't blocked
-sent_path : {C : Type 0} → (came : ℕ) (ds : List Did) (p : Paths C) (size : ℕ) → size ≤ DATAGRAM_SIZE → is_blocked p ≡ false → KeepsPath came ds p (path_sent p size)
-unfolding is_blocked path_sent
-sent_path came ds p size small free = record {
+-- so many bytes more stay within the limit, where the path was within it
+abbrev HasRoom : {C : Type 0} → Paths C → (bytes : ℕ) → Type 0
+HasRoom p bytes = IsLimited p.current → p.current.validated ≡ false → p.current.sent + bytes < 3 * p.current.received + DATAGRAM_SIZE
+
+-- then they may be sent there
+sent_path : {C : Type 0} → (came : ℕ) (ds : List Did) (p : Paths C) (size : ℕ) → HasRoom p size → KeepsPath came ds p (path_sent p size)
+unfolding path_sent
+sent_path came ds p size room = record {
   same = refl;
   validated = λ v. inl v;
   received = omega arith;
   ranged = λ r. r;
-  limited = λ r l not_yet. let few : p.current.sent < 3 * p.current.received = unblocked p.current.validated (nat_le (3 * p.current.received) p.current.sent) not_yet free refl in omega (arith, few);
+  limited = λ r l not_yet. let few : p.current.sent + size < 3 * p.current.received + DATAGRAM_SIZE = room l not_yet in omega (arith, few);
 }
-  where
-    unblocked : (v b : Bool) → v ≡ false → (not v && b) ≡ false → nat_le (3 * p.current.received) p.current.sent ≡ b → p.current.sent < 3 * p.current.received
-    unblocked true b e f g = cc e
-    unblocked false true e f g = cc f
-    unblocked false false e f g = grind (arith, nat_tests)
 
--- what is known of the datagrams of a transmit: they are one at most, which was begun on a path that wasn't blocked
+-- and the controller is told
+told_path : {C : Type 0} → (ds : List Did) (p : Paths C) (control : C) (size : ℕ) → HasRoom p size → KeepsPath 0 ds p (path_sent (path_kept p (record p.current.kept { congestion = control })) size)
+unfolding path_kept
+told_path {C} ds p control size room =
+    let q : Paths C = path_kept p (record p.current.kept { congestion = control }) in
+    holds_next 0 0 [] ds p q (path_sent q size) (still_holds 0 [] p q (record { same = refl; received = refl; sent = refl; kept = λ v. v }) (λ v. inl v)) (sent_path 0 ds q size room)
+
+-- ---- the datagrams of a transmit
+
+-- none has more bytes than a datagram of the path may; and what all have, with what is left in the open one, stays within the limit
 record IsWithin {C : Type 0} (p : Paths C) (b : Batch) : Type 0 where
-  pub few : b.total ≤ DATAGRAM_SIZE
-  pub free : 0 < b.made → is_blocked p ≡ false
+  pub segment : b.segment ≤ DATAGRAM_SIZE
+  pub capacity : b.capacity ≤ DATAGRAM_SIZE
+  pub filled : b.filled ≤ b.capacity
+  pub room : HasRoom p (b.total + (b.capacity - b.filled))
+
+at_most : (a b c : ℕ) → a ≤ b → b ≤ c → a ≤ c
+at_most a b c h k = omega (arith, h, k)
+
+-- there are none yet
+begun_room : {C : Type 0} → (p : Paths C) → HasRoom p 0
+begun_room p = λ l not_yet. let few : p.current.sent < 3 * p.current.received + DATAGRAM_SIZE = l not_yet in omega (arith, few)
+
+-- what the next one may have
+next_small : (most : ℕ) (one : Bool) (filled segment : ℕ) → filled ≤ most → segment ≤ most → (if one then filled else segment) ≤ most
+next_small most true filled segment f s = f
+next_small most false filled segment f s = s
+
+opened_segment : (b : Batch) (probes : Bool) → (batch_opened true probes b).segment ≡ next_segment b
+unfolding batch_opened
+opened_segment b probes = refl
+
+-- with so many bytes more the path isn't blocked, and isn't validated: there are fewer
+unblocked : (v x : Bool) (most bytes : ℕ) → v ≡ false → (not v && x) ≡ false → nat_le most bytes ≡ x → bytes < most
+unblocked true x most bytes e f g = cc e
+unblocked false true most bytes e f g = cc f
+unblocked false false most bytes e f g = grind (arith, nat_tests)
+
+-- a datagram is begun where the path isn't blocked with those before it
+opens_room : (most sent before total capacity filled received : ℕ) → capacity ≤ most → total ≡ before → before + sent < 3 * received → sent + (total + (capacity - filled)) < 3 * received + most
+opens_room most sent before total capacity filled received few same free = omega (arith, few, same, free)
+
+opened_within : {C : Type 0} → (p : Paths C) (probes : Bool) (b : Batch) → is_blocked_behind p b.total ≡ false → IsWithin p b → IsWithin p (batch_opened true probes b)
+unfolding is_blocked_behind
+opened_within {C} p probes b free h =
+    let opened : Batch = batch_opened true probes b in
+    let next : next_segment b ≤ DATAGRAM_SIZE = next_small DATAGRAM_SIZE (b.made == 1) b.filled b.segment (at_most b.filled b.capacity DATAGRAM_SIZE h.filled h.capacity) h.segment in
+    let small : opened.capacity ≤ DATAGRAM_SIZE = at_most opened.capacity (next_segment b) DATAGRAM_SIZE (opened_most b probes) next in
+    record {
+      segment = subst (λ (n : ℕ). n ≤ DATAGRAM_SIZE) (sym (opened_segment b probes)) next;
+      capacity = small;
+      filled = subst (λ (n : ℕ). n ≤ opened.capacity) (sym (opened_filled b probes)) (omega arith);
+      room = λ l not_yet. opens_room DATAGRAM_SIZE p.current.sent b.total opened.total opened.capacity opened.filled p.current.received small (opened_total b true probes)
+          (unblocked p.current.validated (nat_le (3 * p.current.received) (b.total + p.current.sent)) (3 * p.current.received) (b.total + p.current.sent) not_yet free refl);
+    }
+
+begun_within : {C : Type 0} → (p : Paths C) (opens probes : Bool) (b : Batch) → (opens ≡ true → is_blocked_behind p b.total ≡ false) → IsWithin p b → IsWithin p (batch_opened opens probes b)
+unfolding batch_opened
+begun_within p true probes b free h = opened_within p probes b (free refl) h
+begun_within p false probes b free h = h
+
+-- a packet is sealed into what was left
+grows_filled : (filled size capacity : ℕ) → filled + size ≤ capacity → plus filled size ≤ capacity
+grows_filled filled size capacity fits = omega (arith, fits)
+
+grows_room : (most sent total filled size capacity received : ℕ) → capacity ≤ 65527 → filled + size ≤ capacity → sent + (total + (capacity - filled)) < 3 * received + most →
+    sent + (plus total size + (capacity - plus filled size)) < 3 * received + most
+grows_room most sent total filled size capacity received few fits room = omega (arith, few, fits, room)
+
+grown_within : {C : Type 0} → (p : Paths C) (form : Form) (number size padding : ℕ) (fills nearly : Bool) (b : Batch) → b.capacity ≤ 65527 → b.filled + size ≤ b.capacity → IsWithin p b →
+    IsWithin p (batch_grown form number size padding fills nearly b)
+unfolding batch_grown
+grown_within p form number size padding fills nearly b few fits h = record {
+  segment = h.segment;
+  capacity = h.capacity;
+  filled = grows_filled b.filled size b.capacity fits;
+  room = λ l not_yet. grows_room DATAGRAM_SIZE p.current.sent b.total b.filled size b.capacity p.current.received few fits (h.room l not_yet);
+}
+
+-- what all have stays within the limit
+total_room : {C : Type 0} → (p : Paths C) (b : Batch) → IsWithin p b → HasRoom p b.total
+total_room p b h = λ l not_yet. let few : p.current.sent + (b.total + (b.capacity - b.filled)) < 3 * p.current.received + DATAGRAM_SIZE = h.room l not_yet in omega (arith, few)
 
 module _ {t : Types} where
   -- from one moment to another, where the path stays as it was: the deeds between, by which it may have been validated
@@ -362,14 +443,14 @@ module _ {t : Types} where
   killed_paths why a true = refl
   killed_paths why a false = refl
 
-  path_killed : (why : ConnectionError) (a : At t) → (move_to (Say Killed) (killed_after why a)).state.paths ≡ path_idle a.state.paths
+  path_killed : (why : ConnectionError) (a : At t) → (move_to (Say Killed) (killed_after why a)).state.paths ≡ path_quiet a.state.paths Killed
   unfolding killed_after given_after move_to state_move paths_move
-  path_killed why a = ap path_idle (killed_paths why a (is_none (move_to (Raise Drained) a).state.life.reason))
+  path_killed why a = ap (λ (p : Paths t.C). path_quiet p Killed) (killed_paths why a (is_none (move_to (Raise Drained) a).state.life.reason))
 
   -- nothing is sealed
-  path_quiet : (quiet : Quiet) (ds : List Did) (a : At t) → KeepsPath 0 ds a.state.paths (move_to (Say quiet) a).state.paths
+  path_hushed : (m : Meaning t) (time : ℕ) (quiet : Quiet) (b : Batch) (a : At t) → (move_to (Say quiet) (held_after m time quiet b a)).state.paths ≡ path_quiet a.state.paths quiet
   unfolding move_to state_move paths_move
-  path_quiet quiet ds a = idle_path 0 ds a.state.paths
+  path_hushed m time quiet b a = ap (λ (p : Paths t.C). path_quiet p quiet) (held_paths m time quiet b a)
 
   -- leaving the Initial space
   left_paths : (time : ℕ) (a : At t) (x : Bool) → (if x then armed_with false time (move_to (Forget Initial) a) else a).state.paths ≡ a.state.paths
@@ -397,48 +478,103 @@ module _ {t : Types} where
       stopped_paths time why (lost.TransportError key_limit_error) a (is_open a.state.life.state) (is_none (move_to (Shut time why) a).state.life.reason)
   path_spared time false a = refl
 
-  -- packets leave the path: their bytes count as the transmit ends
-  packet_move : (x : Move t) → IsPacketMove x → (a : At t) → MayMove x a.state → (move_to x a).state.paths ≡ a.state.paths
-  unfolding move_to state_move paths_move
-  packet_move (Begin id opens) r a h = refl
-  packet_move Skip r a h = refl
-  packet_move (Arm at) r a h = refl
+  -- the address and the counts of the path stand still, and whether it is validated
+  abbrev Rests : At t → At t → Type 0
+  Rests a b = Still a.state.paths b.state.paths × (b.state.paths.current.validated ≡ a.state.paths.current.validated)
+
+  rests_here : (a : At t) → Rests a a
+  rests_here a = (still_here a.state.paths, refl)
+
+  rests_next : (a b c : At t) → Rests a b → Rests b c → Rests a c
+  rests_next a b c g h = (still_next a.state.paths b.state.paths c.state.paths g.0 h.0, h.1 ∙ g.1)
+
+  rests_hold : (ds : List Did) (a b : At t) → Rests a b → KeepsPath 0 ds a.state.paths b.state.paths
+  rests_hold ds a b rests = still_holds 0 ds a.state.paths b.state.paths rests.0 (λ v. inl (sym rests.1 ∙ v))
+
+  -- then as many bytes more stay within the limit
+  rests_room : (a b : At t) (bytes : ℕ) → Rests a b → HasRoom a.state.paths bytes → HasRoom b.state.paths bytes
+  rests_room a b bytes rests room = λ l not_yet.
+      let before : a.state.paths.current.validated ≡ false = sym rests.1 ∙ not_yet in
+      let low : b.state.paths.current.sent < 3 * b.state.paths.current.received + DATAGRAM_SIZE = l not_yet in
+      let same : b.state.paths.current.sent ≡ a.state.paths.current.sent = rests.0.sent in
+      let heard : b.state.paths.current.received ≡ a.state.paths.current.received = rests.0.received in
+      let few : a.state.paths.current.sent + bytes < 3 * a.state.paths.current.received + DATAGRAM_SIZE = room (λ v. omega (arith, low, same, heard)) before in
+      omega (arith, few, same, heard)
+
+  rests_within : (a b : At t) (c : Batch) → Rests a b → IsWithin a.state.paths c → IsWithin b.state.paths c
+  rests_within a b c rests h = record { segment = h.segment; capacity = h.capacity; filled = h.filled; room = rests_room a b (c.total + (c.capacity - c.filled)) rests h.room }
+
+  -- so it is with packets: their bytes count as the transmit ends
+  packet_move : (x : Move t) → IsPacketMove x → (a : At t) → MayMove x a.state → Rests a (move_to x a)
+  unfolding move_to state_move paths_move path_kept
+  packet_move (Begin id opens) r a h = rests_here a
+  packet_move Skip r a h = rests_here a
+  packet_move (Spend tokens) r a h = (kept_still a.state.paths _, refl)
+  packet_move (Arm due) r a h = rests_here a
   packet_move _ r a h = absurd r
 
   packet_sealed : (time : ℕ) (form : Form) (fs : List FrameValue) (a : At t) → IsSealable time a.state form fs →
-      (move_to (Seal time form (next_number a.state.numbers (number_space form)) (packet_size a.state form fs) fs) (move_to (Take (number_space form) fs) a)).state.paths ≡ a.state.paths
+      Rests a (move_to (Seal time form (next_number a.state.numbers (number_space form)) (packet_size a.state form fs) fs) (move_to (Take (number_space form) fs) a))
   unfolding move_to state_move paths_move
-  packet_sealed time form fs a may = refl
+  packet_sealed time form fs a may = rests_here a
 
-  path_packets : (m : Meaning t) (time : ℕ) (ps : List Sent) (g : Going t) → MayAll m time g ps → (packets_after m time ps g).now.state.paths ≡ g.now.state.paths
-  path_packets m time ps g may = holds_packets (λ (a b : At t). b.state.paths ≡ a.state.paths) (λ a. refl) (λ a b c p q. q ∙ p) packet_move packet_sealed m time ps g may
+  path_packets : (m : Meaning t) (time : ℕ) (ps : List Sent) (g : Going t) → MayAll m time g ps → Rests g.now (packets_after m time ps g).now
+  path_packets m time ps g may = holds_packets Rests rests_here rests_next packet_move packet_sealed m time ps g may
 
-  -- so it is behind its packets
-  within : (m : Meaning t) (time : ℕ) (ps : List Sent) (g : Going t) → g.batch.made ≡ 0 → g.batch.total ≡ 0 → g.batch.segment ≡ DATAGRAM_SIZE → MayAll m time g ps → IsWithin g.now.state.paths (packets_after m time ps g).batch
-  within m time [] g made total whole may = record { few = omega (arith, total); free = λ some. absurd (omega (arith, made, some)) }
-  within m time (p ∷ []) g made total whole may = record { few = packet_total m time p g may.0 total whole; free = λ some. may.0.begins.free }
-  within m time (p ∷ q ∷ ps) g made total whole may = absurd (omega (arith, packet_made m time p g may.0, may.1.0.alone))
+  -- a packet that begins a datagram does so where the path isn't blocked
+  place_free : (m : Meaning t) (time : ℕ) (s : View t) (b : Batch) (id : SpaceId) (opens : Bool) → MayStand m time s b id opens → opens ≡ true → is_blocked_behind s.paths b.total ≡ false
+  place_free m time s b id true may e = free_behind m time s b id may.free
+  place_free m time s b id false may e = cc
+
+  packet_within : (m : Meaning t) (time : ℕ) (p : Sent) (g : Going t) → MayFollow m time g.now.state g.batch p → IsWithin g.now.state.paths g.batch → IsWithin g.now.state.paths (packet_after m time p g).batch
+  unfolding packet_after begun_batch
+  packet_within m time p g may h =
+      let id : SpaceId = number_space p.form in
+      let begun : At t = begun_after id p.opens g.now in
+      let probes : Bool = not ((space_of g.now.state.waiting.spaces id).probes == 0) in
+      let opened : Batch = batch_opened p.opens probes g.batch in
+      let fits : opened.filled + packet_size begun.state p.form p.frames ≤ opened.capacity = subst (λ (s : View t). opened.filled + packet_size s p.form p.frames ≤ opened.capacity) (sym (begun_same id p.opens g.now)) may.fits in
+      grown_within g.now.state.paths p.form _ (packet_size begun.state p.form p.frames) _ _ _ opened may.sized fits
+      (begun_within g.now.state.paths p.opens probes g.batch (place_free m time g.now.state g.batch id p.opens may.begins.place) h)
+
+  -- so it is behind all of them
+  within : (m : Meaning t) (time : ℕ) (ps : List Sent) (g : Going t) → IsWithin g.now.state.paths g.batch → MayAll m time g ps → IsWithin (packets_after m time ps g).now.state.paths (packets_after m time ps g).batch
+  within m time [] g h may = h
+  within m time (p ∷ ps) g h may =
+      let k : Going t = packet_after m time p g in
+      within m time ps k (rests_within g.now k.now k.batch (path_packets m time (p ∷ []) g (may.0, tt)) (packet_within m time p g may.0 h)) may.1
+
+  begun_all_within : (asked : ℕ) (a : At t) → IsWithin a.state.paths (going_from asked a).batch
+  begun_all_within asked a = record { segment = omega arith; capacity = omega arith; filled = omega arith; room = begun_room a.state.paths }
 
   -- what a transmit does once
-  path_finished : (time : ℕ) (b : Batch) (a : At t) → (finished_after time b a).state.paths ≡ path_sent a.state.paths b.total
-  unfolding finished_after move_to state_move paths_move
-  path_finished time b a =
+  path_finished : (m : Meaning t) (time : ℕ) (b : Batch) (ds : List Did) (a : At t) → HasRoom a.state.paths b.total → KeepsPath 0 ds a.state.paths (finished_after m time b a).state.paths
+  unfolding finished_after told_sent move_to state_move paths_move
+  path_finished m time b ds a room =
       let c : At t = handshake_left time b.shook a in
-      ap (λ (p : Paths t.C). path_sent p b.total) (path_spared time b.worn c ∙ path_left time b.shook a)
+      let d : At t = spared_after time b.worn c in
+      let same : d.state.paths ≡ a.state.paths = path_spared time b.worn c ∙ path_left time b.shook a in
+      subst (λ (p : Paths t.C). KeepsPath 0 ds p (finished_after m time b a).state.paths) same
+      (told_path ds d.state.paths (m.control.after_sent d.state.paths.current.kept.congestion time b.total b.last) b.total (subst (λ (p : Paths t.C). HasRoom p b.total) (sym same) room))
 
-  path_ending : (time : ℕ) (e : Ending) (b : Batch) (ds : List Did) (a : At t) → IsWithin a.state.paths b → MayEnd e a.state b → KeepsPath 0 ds a.state.paths (ending_after time e b a).state.paths
+  path_ending : (m : Meaning t) (time : ℕ) (e : Ending) (b : Batch) (ds : List Did) (a : At t) → IsWithin a.state.paths b → MayEnd m time e a.state b → KeepsPath 0 ds a.state.paths (ending_after m time e b a).state.paths
   unfolding ending_after
-  path_ending time Went b ds a h may = subst (λ (p : Paths t.C). KeepsPath 0 ds a.state.paths p) (sym (path_finished time b a)) (sent_path 0 ds a.state.paths b.total h.few (h.free may))
-  path_ending time (Hushed quiet) b ds a h may = path_quiet quiet ds a
-  path_ending time (Died why) b ds a h may = subst (λ (p : Paths t.C). KeepsPath 0 ds a.state.paths p) (sym (path_killed why a)) (idle_path 0 ds a.state.paths)
+  path_ending m time Went b ds a h may = path_finished m time b ds a (total_room a.state.paths b h)
+  path_ending m time Held b ds a h may =
+      let c : At t = held_after m time Pacing b a in
+      let same : c.state.paths ≡ a.state.paths = held_paths m time Pacing b a in
+      subst (λ (p : Paths t.C). KeepsPath 0 ds p (finished_after m time b c).state.paths) same
+      (path_finished m time b ds c (subst (λ (p : Paths t.C). HasRoom p b.total) (sym same) (total_room a.state.paths b h)))
+  path_ending m time (Hushed quiet) b ds a h may = subst (λ (p : Paths t.C). KeepsPath 0 ds a.state.paths p) (sym (path_hushed m time quiet b a)) (quiet_path 0 ds a.state.paths quiet)
+  path_ending m time (Died why) b ds a h may = subst (λ (p : Paths t.C). KeepsPath 0 ds a.state.paths p) (sym (path_killed why a)) (quiet_path 0 ds a.state.paths Killed)
 
-  path_transmit : (m : Meaning t) (time : ℕ) (choice : Choice) (ds : List Did) (a : At t) → MayTransmit m time choice a → KeepsPath 0 ds a.state.paths (transmit_after m time choice a).state.paths
+  path_transmit : (m : Meaning t) (time asked : ℕ) (choice : Choice) (ds : List Did) (a : At t) → MayTransmit m time asked choice a → KeepsPath 0 ds a.state.paths (transmit_after m time asked choice a).state.paths
   unfolding MayTransmit transmit_after gone_after
-  path_transmit m time choice ds a may =
-      let g : Going t = packets_after m time choice.packets (going_from a) in
-      let same : g.now.state.paths ≡ a.state.paths = path_packets m time choice.packets (going_from a) may.0 in
-      let known : IsWithin g.now.state.paths g.batch = subst (λ (p : Paths t.C). IsWithin p g.batch) (sym same) (within m time choice.packets (going_from a) refl refl refl may.0) in
-      subst (λ (p : Paths t.C). KeepsPath 0 ds p (transmit_after m time choice a).state.paths) same (path_ending time choice.ending g.batch ds g.now known may.1)
+  path_transmit m time asked choice ds a may =
+      let g : Going t = packets_after m time choice.packets (going_from asked a) in
+      let rests : Rests a g.now = path_packets m time choice.packets (going_from asked a) may.0 in
+      let behind : IsWithin g.now.state.paths g.batch = within m time choice.packets (going_from asked a) (begun_all_within asked a) may.0 in
+      holds_next 0 0 [] ds a.state.paths g.now.state.paths (transmit_after m time asked choice a).state.paths (rests_hold [] a g.now rests) (path_ending m time choice.ending g.batch ds g.now behind may.1)
 
   -- the application closes, or has closed before
   path_close : (time : ℕ) (close : Close) (ds : List Did) (a : At t) (b : Bool) → KeepsPath 0 ds a.state.paths (if b then move_to (Shut time close) a else a).state.paths
@@ -446,10 +582,7 @@ module _ {t : Types} where
   path_close time close ds a true = unchanged 0 ds a.state.paths
   path_close time close ds a false = unchanged 0 ds a.state.paths
 
-  -- of what a timer does, the address and the counts of the path stand still, and whether it is validated
-  abbrev Rests : At t → At t → Type 0
-  Rests a b = Still a.state.paths b.state.paths × (b.state.paths.current.validated ≡ a.state.paths.current.validated)
-
+  -- nothing of that is changed by a timer
   timed_paths : (x : Move t) → IsTimed x → (a : At t) → MayMove x a.state → Rests a (move_to x a)
   unfolding move_to state_move paths_move path_kept
   timed_paths (Fire after) r a h = (kept_still a.state.paths after.path, refl)
@@ -464,10 +597,7 @@ module _ {t : Types} where
 
   -- and so they do over a timeout
   path_timeout : (m : Meaning t) (time : ℕ) (ds : List Did) (a : At t) → KeepsPath 0 ds a.state.paths (timeout_after m time a).state.paths
-  path_timeout m time ds a =
-      let rests : Rests a (timeout_after m time a) =
-      holds_timeout Rests (λ b. (still_here b.state.paths, refl)) (λ b c d g h. (still_next b.state.paths c.state.paths d.state.paths g.0 h.0, h.1 ∙ g.1)) timed_paths m time a in
-      still_holds 0 ds a.state.paths (timeout_after m time a).state.paths rests.0 (λ v. inl (sym rests.1 ∙ v))
+  path_timeout m time ds a = rests_hold ds a (timeout_after m time a) (holds_timeout Rests rests_here rests_next timed_paths m time a)
 
   -- the application makes calls of the streams
   path_called : (i : Input) (choice : Choice) (s : View t) → MayRead i choice.read s.lower.streams → let r : At t = called_all (calls_of i choice.read s.lower.streams) (at s []) in KeepsPath 0 r.did s.paths r.state.paths
@@ -482,7 +612,7 @@ module _ {t : Types} where
   unfolding IsAllowed input_after close_after move_to state_move paths_move
   path_input m (input.Datagram time from ecn bytes) choice s may = path_datagram m (record { time = time; remote = from; mark = ecn }) bytes s
   path_input m (input.Timeout time) choice s may = path_timeout m time _ (at s [])
-  path_input m (input.Transmit time max) choice s may = path_transmit m time choice _ (at s []) may
+  path_input m (input.Transmit time max) choice s may = path_transmit m time max choice _ (at s []) may
   path_input m (input.Close time code reason) choice s may = path_close time _ _ (at s []) (is_open s.life.state)
   path_input m (input.Ping time) choice s may = unchanged 0 _ s.paths
   path_input m (input.SendDatagram time body) choice s may = unchanged 0 _ s.paths

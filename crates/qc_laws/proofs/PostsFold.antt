@@ -1,11 +1,11 @@
 -- The datagrams of the application over a run are the fold of their steps.
-use Rattle.std.proofs.Common.{◌≡◌, ℕ, ◌+◌, List, [], ◌∷◌, ◌++◌, refl, ap, sym, ◌∙◌, subst, Bool, true, false, Some, None, if◌then◌else◌, append_assoc, append-nil, arith}
+use Rattle.std.proofs.Common.{◌≡◌, ℕ, ◌+◌, List, [], ◌∷◌, ◌++◌, refl, ap, sym, ◌∙◌, subst, Bool, true, false, Some, None, if◌then◌else◌, append_assoc, append-nil}
 use Rattle.std.specs.Prelude.{map, is_none, option_to_list, Option}
 use Rattle.std.specs.Option.{option_map}
 use Rattle.std.specs.declared.net.SocketAddr.{SocketAddr}
 use Rattle.qc_base.specs.declared.side.SpaceId.{SpaceId}
 use Rattle.qc_datagrams.specs.declared.datagrams.Datagrams.{Datagrams}
-use Rattle.qc_datagrams.specs.Steps.{Step, Sealed, Sent, Taken, after, after_step}
+use Rattle.qc_datagrams.specs.Steps.{Step, Came, Sealed, Sent, Taken, after, after_step}
 use Rattle.qc_flight.specs.declared.sent.SentPacket.{SentPacket}
 use Rattle.qc_frame.specs.Frame.{FrameValue}
 use Rattle.qc_frame.specs.declared.frames.FrameOf.TheVariants as frames
@@ -14,7 +14,7 @@ use Rattle.qc_state.specs.declared.deeds.Did.{Did}
 use Rattle.qc_state.specs.declared.deeds.Did.TheVariants as did
 use Rattle.qc_state.specs.declared.deeds.Layer.TheVariants as layer
 use Rattle.qc_state.specs.declared.events.Event.{Event}
-use Rattle.qc_state.specs.declared.events.Event.TheVariants.{HandshakeDataReady, Connected, Stream, ConnectionLost, DatagramReceived}
+use Rattle.qc_state.specs.declared.events.Event.TheVariants.{HandshakeDataReady, Connected, Stream, ConnectionLost, DatagramReceived, DatagramsUnblocked}
 use Rattle.qc_state.specs.declared.form.Form.{Form}
 use Rattle.qc_state.specs.declared.input.Input.{Input}
 use Rattle.qc_state.specs.declared.input.Input.TheVariants as input
@@ -22,27 +22,27 @@ use Rattle.qc_state.specs.declared.life.ConnectionError.{ConnectionError}
 use Rattle.qc_state.specs.declared.life.Life.{Life}
 use Rattle.qc_state.specs.declared.lower.Lower.{Lower}
 use Rattle.qc_state.specs.declared.trace.Step.{Step as TraceStep}
-use Rattle.qc_state.specs.Datagrams.{datagram_steps, sealed_datagrams, tells_datagram}
+use Rattle.qc_state.specs.Datagrams.{datagram_steps, sealed_datagrams, tells_datagram, told_by, told_by_all}
 use Rattle.qc_state.specs.Flight.{flown_packet}
 use Rattle.qc_state.specs.Forms.{number_space}
 use Rattle.qc_state.specs.Life.{connected_event, data_ready, datagram_heard, event_if, identifiers_wanted, life_closed, life_drained, life_established, life_raised, lost_event, ready_event, reason_given, token_learned, ready_reported, connected_reported, all_heard_reported, lost_reported, notices_reported, drained_reported, retirement_told, token_told}
 use Rattle.qc_state.specs.Lower.{bytes_came, datagrams_stepped, events_told, flight_dropped, frame_handed, limits_learned, packet_flown, packets_settled, session_read, session_wrote, streams_closed, streams_stepped, timer_fired, frames_sealed, ids_stepped}
-use Rattle.qc_state.specs.Moves.{Begin, Call, Give, Hand, IsTold, MayMove, Move, Post, ReportHeard, ReportAllHeard, ReportStream, ReportStreams, Seal, Take, Tell, deeds_move, life_move, lower_move, move_to, state_move, told_to_streams, Insert, Switch, Retire}
+use Rattle.qc_state.specs.Moves.{Begin, Call, Give, Hand, IsTold, MayMove, Move, Post, ReportReady, ReportConnected, ReportHeard, ReportAllHeard, ReportLost, ReportNotice, ReportNotices, ReportDrained, ReportStream, ReportStreams, Seal, Take, Tell, deeds_move, life_move, lower_move, move_to, state_move, told_to_streams, Insert, Switch, Retire}
 use Rattle.qc_state.specs.Numbers.{next_number}
 use Rattle.qc_state.specs.Polls.{waiting_events}
 use Rattle.qc_state.specs.Run.{IsAllowed, IsStep, Run, answer_of, began, called, called_all, datagram_limit, input_after, reported, time_of}
 use Rattle.qc_state.specs.Run as run
 use Rattle.qc_state.specs.Sending.{Choice, packet_size}
-use Rattle.qc_state.specs.Streams.{calls_of, events_of}
+use Rattle.qc_state.specs.Streams.{events_of}
 use Rattle.qc_streams.specs.Waits as streams
 use Rattle.qc_state.specs.Types.{Types, Meaning}
 use Rattle.qc_state.specs.View.{View, At}
 use Rattle.qc_state.proofs.DatagramSteps.{posts_append}
 use Rattle.qc_state.proofs.Probed.{begun_streams}
+use Rattle.qc_state.proofs.RoomTold.{told_append}
 use Rattle.qc_state.proofs.Telling.{told_appends}
 use Rattle.qc_state.proofs.Transmitted.{IsSealable}
-use Rattle.qc_laws.specs.EventLaws.{once}
-use Rattle.qc_laws.specs.PostLaws.{AreOfDeeds, ArePosts, FoldsPosts, MakesPosts, count_told, heard_in}
+use Rattle.qc_laws.specs.PostLaws.{AreOfDeeds, ArePosts, FoldsPosts, MakesPosts, heard_in}
 use Rattle.qc_laws.specs.StreamsLaws.{with_steps}
 use Rattle.qc_laws.proofs.KnownMoves.{IsElsewhere, IsKnownMove, IsUncalled, is_called, known_other}
 use Rattle.qc_laws.proofs.StreamCalls.{called_input}
@@ -51,11 +51,6 @@ use Rattle.qc_ids.specs.LocalCids.{may_retire}
 use Rattle.qc_state.specs.Ids.{active_limit}
 
 -- ---- steps and events, one list behind another
-
-told_append : (xs ys : List Step) (d : Datagrams) → count_told (xs ++ ys) d ≡ count_told xs d + count_told ys (after xs d)
-unfolding after
-told_append [] ys d = omega arith
-told_append (x ∷ xs) ys d = let more : count_told (xs ++ ys) (after_step x d) ≡ count_told xs (after_step x d) + count_told ys (after xs (after_step x d)) = told_append xs ys (after_step x d) in omega (arith, more)
 
 deeds_append : (ds es : List Did) (xs ys : List Step) (d : Datagrams) → AreOfDeeds ds xs d → AreOfDeeds es ys (after xs d) → AreOfDeeds (ds ++ es) (xs ++ ys) d
 unfolding after
@@ -77,32 +72,45 @@ deeds_append (did.Rose life ∷ ds) es xs ys d h g = deeds_append ds es xs ys d 
 deeds_append (did.Lost why ∷ ds) es xs ys d h g = deeds_append ds es xs ys d h g
 deeds_append (did.Quiet why ∷ ds) es xs ys d h g = deeds_append ds es xs ys d h g
 
--- none of those with which frames are sealed is to be told
-sealed_untold : (fs : List FrameValue) (d : Datagrams) → count_told (sealed_datagrams fs) d ≡ 0
-unfolding sealed_datagrams
-sealed_untold [] d = refl
-sealed_untold (frames.Datagram body ∷ fs) d = let more : count_told (sealed_datagrams fs) (after_step Sealed d) ≡ 0 = sealed_untold fs (after_step Sealed d) in omega (arith, more)
-sealed_untold (_ ∷ fs) d = sealed_untold fs d
-
-heard_append : (es fs : List Event) → heard_in (es ++ fs) ≡ heard_in es + heard_in fs
-heard_append [] fs = omega arith
+heard_append : (es fs : List Event) → heard_in (es ++ fs) ≡ heard_in es ++ heard_in fs
+heard_append [] fs = refl
 heard_append (HandshakeDataReady ∷ es) fs = heard_append es fs
 heard_append (Connected ∷ es) fs = heard_append es fs
-heard_append (DatagramReceived ∷ es) fs = let more : heard_in (es ++ fs) ≡ heard_in es + heard_in fs = heard_append es fs in omega (arith, more)
+heard_append (DatagramReceived ∷ es) fs = ap (λ (xs : List Event). DatagramReceived ∷ xs) (heard_append es fs)
+heard_append (DatagramsUnblocked ∷ es) fs = ap (λ (xs : List Event). DatagramsUnblocked ∷ xs) (heard_append es fs)
 heard_append (Stream event ∷ es) fs = heard_append es fs
 heard_append (ConnectionLost why ∷ es) fs = heard_append es fs
 
--- of the events that wait, those that tell that a datagram came
-none_heard : (es : List StreamEvent) (o : Option ConnectionError) → heard_in (map Stream es ++ option_to_list (option_map ConnectionLost o)) ≡ 0
+-- what steps tell is of datagrams
+step_heard : (x : Step) (d : Datagrams) → heard_in (told_by x d) ≡ told_by x d
+step_heard (Came body) d = by (tells_datagram (frames.Datagram body) d)
+  where
+    by : (b : Bool) → heard_in (if b then DatagramReceived ∷ [] else []) ≡ (if b then DatagramReceived ∷ [] else [])
+    by true = refl
+    by false = refl
+step_heard Sealed d = by d.blocked
+  where
+    by : (b : Bool) → heard_in (if b then DatagramsUnblocked ∷ [] else []) ≡ (if b then DatagramsUnblocked ∷ [] else [])
+    by true = refl
+    by false = refl
+step_heard _ d = refl
+
+steps_heard : (xs : List Step) (d : Datagrams) → heard_in (told_by_all xs d) ≡ told_by_all xs d
+unfolding told_by_all
+steps_heard [] d = refl
+steps_heard (x ∷ xs) d =
+    heard_append (told_by x d) (told_by_all xs (after_step x d)) ∙ ap (λ (es : List Event). es ++ heard_in (told_by_all xs (after_step x d))) (step_heard x d)
+    ∙ ap (λ (es : List Event). told_by x d ++ es) (steps_heard xs (after_step x d))
+
+-- of the events that wait, those that tell of datagrams
+none_heard : (es : List StreamEvent) (o : Option ConnectionError) → heard_in (map Stream es ++ option_to_list (option_map ConnectionLost o)) ≡ []
 none_heard [] None = refl
 none_heard [] (Some why) = refl
 none_heard (e ∷ es) o = none_heard es o
 
 behind_heard : (hs : List Event) (es : List StreamEvent) (o : Option ConnectionError) → heard_in (hs ++ (map Stream es ++ option_to_list (option_map ConnectionLost o))) ≡ heard_in hs
 behind_heard hs es o =
-    let both : heard_in (hs ++ (map Stream es ++ option_to_list (option_map ConnectionLost o))) ≡ heard_in hs + heard_in (map Stream es ++ option_to_list (option_map ConnectionLost o)) = heard_append hs _ in
-    let none : heard_in (map Stream es ++ option_to_list (option_map ConnectionLost o)) ≡ 0 = none_heard es o in
-    omega (arith, both, none)
+    heard_append hs (map Stream es ++ option_to_list (option_map ConnectionLost o)) ∙ ap (λ (xs : List Event). heard_in hs ++ xs) (none_heard es o) ∙ append-nil (heard_in hs)
 
 waiting_heard : (r c : Bool) (hs : List Event) (es : List StreamEvent) (o : Option ConnectionError) →
     heard_in (option_to_list (event_if r HandshakeDataReady) ++ (option_to_list (event_if c Connected) ++ (hs ++ (map Stream es ++ option_to_list (option_map ConnectionLost o))))) ≡ heard_in hs
@@ -114,10 +122,10 @@ waiting_heard false false hs es o = behind_heard hs es o
 -- ---- frames
 
 -- that one came waits to be told, if it is to be
-heard_told : (tells : Bool) (v : Life) → heard_in (datagram_heard tells v).heard ≡ heard_in v.heard + once tells
+heard_told : (tells : Bool) (v : Life) → heard_in (datagram_heard tells v).heard ≡ heard_in v.heard ++ (if tells then DatagramReceived ∷ [] else [])
 unfolding datagram_heard
 heard_told true v = heard_append v.heard (DatagramReceived ∷ [])
-heard_told false v = omega arith
+heard_told false v = sym (append-nil (heard_in v.heard))
 
 -- a reason leaves what waits of datagrams
 given_heard : (v : Life) (why : ConnectionError) (b : Bool) → (if b then record v { reason = Some why; lost = Some why } else v).heard ≡ v.heard
@@ -152,8 +160,9 @@ frame_came (frames.MaxStreams dir count) d = (frames.MaxStreams dir count, [], r
 frame_came (frames.Datagram body) d = (frames.Datagram body, [], refl, refl, refl)
 frame_came _ d = refl
 
-frame_told : (frame : FrameValue) (d : Datagrams) → count_told (datagram_steps frame) d ≡ once (tells_datagram frame d)
-frame_told (frames.Datagram body) d = omega arith
+frame_told : (frame : FrameValue) (d : Datagrams) → told_by_all (datagram_steps frame) d ≡ (if tells_datagram frame d then DatagramReceived ∷ [] else [])
+unfolding told_by_all
+frame_told (frames.Datagram body) d = append-nil (told_by (Came body) d)
 frame_told _ d = refl
 
 -- what is told by itself makes none
@@ -179,25 +188,24 @@ module _ {t : Types} where
     pub steps : List Step
     pub leads : b.state.lower.datagrams ≡ after steps a.state.lower.datagrams
     pub are : AreOfDeeds since steps a.state.lower.datagrams
-    pub heard : heard_in b.state.life.heard ≡ heard_in a.state.life.heard + count_told steps a.state.lower.datagrams
+    pub heard : heard_in b.state.life.heard ≡ heard_in a.state.life.heard ++ told_by_all steps a.state.lower.datagrams
 
   folds_here : (a : At t) → Folds a a
-  unfolding after
-  folds_here a = record { since = []; appended = sym (append-nil a.did); steps = []; leads = refl; are = refl; heard = omega arith }
+  unfolding after told_by_all
+  folds_here a = record { since = []; appended = sym (append-nil a.did); steps = []; leads = refl; are = refl; heard = sym (append-nil (heard_in a.state.life.heard)) }
 
   folds_next : (a b c : At t) → Folds a b → Folds b c → Folds a c
   folds_next a b c g h =
       let d : Datagrams = a.state.lower.datagrams in
-      let told : count_told (g.steps ++ h.steps) d ≡ count_told g.steps d + count_told h.steps (after g.steps d) = told_append g.steps h.steps d in
-      let later : heard_in c.state.life.heard ≡ heard_in b.state.life.heard + count_told h.steps (after g.steps d) =
-      subst (λ (x : Datagrams). heard_in c.state.life.heard ≡ heard_in b.state.life.heard + count_told h.steps x) g.leads h.heard in
+      let first : List Event = told_by_all g.steps d in
       record {
         since = g.since ++ h.since;
         appended = h.appended ∙ ap (λ (x : List Did). x ++ h.since) g.appended ∙ append_assoc a.did g.since h.since;
         steps = g.steps ++ h.steps;
         leads = h.leads ∙ ap (λ (x : Datagrams). after h.steps x) g.leads ∙ sym (posts_append g.steps h.steps d);
         are = deeds_append g.since h.since g.steps h.steps d g.are (subst (λ (x : Datagrams). AreOfDeeds h.since h.steps x) g.leads h.are);
-        heard = omega (arith, told, later, g.heard);
+        heard = h.heard ∙ ap (λ (x : Datagrams). heard_in b.state.life.heard ++ told_by_all h.steps x) g.leads ∙ ap (λ (es : List Event). es ++ told_by_all h.steps (after g.steps d)) g.heard
+            ∙ append_assoc (heard_in a.state.life.heard) first (told_by_all h.steps (after g.steps d)) ∙ ap (λ (es : List Event). heard_in a.state.life.heard ++ es) (sym (told_append g.steps h.steps d));
       }
 
   -- which of their steps a move is
@@ -224,27 +232,25 @@ module _ {t : Types} where
   moved_came m (Seal time form n size fs) s k may = absurd k
   moved_came m _ s k may = refl
 
-  moved_heard : (m : Meaning t) (x : Move t) (s : View t) → IsKnownMove m x s → heard_in (life_move x s).heard ≡ heard_in s.life.heard + count_told (steps_by x) s.lower.datagrams
-  unfolding life_move life_closed life_drained data_ready life_established token_learned identifiers_wanted life_raised reason_given
+  moved_heard : (m : Meaning t) (x : Move t) (s : View t) → IsKnownMove m x s → heard_in (life_move x s).heard ≡ heard_in s.life.heard ++ told_by_all (steps_by x) s.lower.datagrams
+  unfolding told_by_all life_move life_closed life_drained data_ready life_established token_learned identifiers_wanted life_raised reason_given
+  moved_heard m (Take id fs) s k = absurd k
   moved_heard m (Hand frame) s k =
-      let told : heard_in (datagram_heard (tells_datagram frame s.lower.datagrams) s.life).heard ≡ heard_in s.life.heard + once (tells_datagram frame s.lower.datagrams) = heard_told (tells_datagram frame s.lower.datagrams) s.life in
-      told ∙ ap (λ (n : ℕ). heard_in s.life.heard + n) (sym (frame_told frame s.lower.datagrams))
-  moved_heard m (Give why) s k =
-      let same : heard_in (reason_given s.life why).heard ≡ heard_in s.life.heard = ap heard_in (given_heard s.life why (is_none s.life.reason)) in
-      omega (arith, same)
+      heard_told (tells_datagram frame s.lower.datagrams) s.life ∙ ap (λ (es : List Event). heard_in s.life.heard ++ es) (sym (frame_told frame s.lower.datagrams))
+  moved_heard m (Give why) s k = ap heard_in (given_heard s.life why (is_none s.life.reason)) ∙ sym (append-nil (heard_in s.life.heard))
+  moved_heard m ReportReady s k = absurd k
+  moved_heard m ReportConnected s k = absurd k
   moved_heard m ReportHeard s k = absurd k
-  moved_heard m (Insert new) s k =
-      let same : heard_in (life_move (Insert new) s).heard ≡ heard_in s.life.heard = ap heard_in (named_heard (token_by new s.lower.ids.remote) s.life s.paths.current.remote) in
-      omega (arith, same)
-  moved_heard m Switch s k =
-      let same : heard_in (life_move {t = t} Switch s).heard ≡ heard_in s.life.heard = ap heard_in (named_heard (next_token s.lower.ids.remote) s.life s.paths.current.remote) in
-      omega (arith, same)
+  moved_heard m (Insert new) s k = ap heard_in (named_heard (token_by new s.lower.ids.remote) s.life s.paths.current.remote) ∙ sym (append-nil (heard_in s.life.heard))
+  moved_heard m Switch s k = ap heard_in (named_heard (next_token s.lower.ids.remote) s.life s.paths.current.remote) ∙ sym (append-nil (heard_in s.life.heard))
   moved_heard m (Retire time n) s k =
-      let same : heard_in (life_move {t = t} (Retire time n) s).heard ≡ heard_in s.life.heard =
-      ap heard_in (retired_heard (may_retire n s.lower.ids.local) s.life time n (asks_one (active_limit s.setup.peer) n s.lower.ids)) in
-      omega (arith, same)
+      ap heard_in (retired_heard (may_retire n s.lower.ids.local) s.life time n (asks_one (active_limit s.setup.peer) n s.lower.ids)) ∙ sym (append-nil (heard_in s.life.heard))
   moved_heard m ReportAllHeard s k = absurd k
-  moved_heard m _ s k = omega arith
+  moved_heard m ReportLost s k = absurd k
+  moved_heard m ReportNotice s k = absurd k
+  moved_heard m ReportNotices s k = absurd k
+  moved_heard m ReportDrained s k = absurd k
+  moved_heard m _ s k = sym (append-nil (heard_in s.life.heard))
 
   move_folds : (m : Meaning t) (x : Move t) (a : At t) → IsKnownMove m x a.state → IsUncalled x → MayMove x a.state → Folds a (move_to x a)
   unfolding move_to state_move
@@ -271,7 +277,8 @@ module _ {t : Types} where
         steps = sealed_datagrams fs;
         leads = flown_datagrams b.state.waiting.close_owed b.state.lower (number_space form) n (flown_packet time size fs);
         are = ([], sym (append-nil (sealed_datagrams fs)), may.oldest, refl);
-        heard = omega (arith, sealed_untold fs a.state.lower.datagrams);
+        heard = heard_append a.state.life.heard (told_by_all (sealed_datagrams fs) a.state.lower.datagrams)
+            ∙ ap (λ (es : List Event). heard_in a.state.life.heard ++ es) (steps_heard (sealed_datagrams fs) a.state.lower.datagrams);
       }
 
   -- a call of the streams leaves them
@@ -294,7 +301,7 @@ module _ {t : Types} where
     pub made : List Step
     pub leads : b.state.lower.datagrams ≡ after made s.lower.datagrams
     pub makes : x.did ≡ b.did → MakesPosts i x made s.lower.datagrams
-    pub heard : heard_in b.state.life.heard ≡ heard_in s.life.heard + count_told made s.lower.datagrams
+    pub heard : heard_in b.state.life.heard ≡ heard_in s.life.heard ++ told_by_all made s.lower.datagrams
 
   other_does : (m : Meaning t) (i : Input) (x : TraceStep) (choice : Choice) (s : View t) → ((made : List Step) → AreOfDeeds x.did made s.lower.datagrams → MakesPosts i x made s.lower.datagrams) → is_called i ≡ false →
       IsAllowed m i choice (began s (time_of i)) → Does i x s (input_after m i choice (began s (time_of i)))
@@ -311,29 +318,29 @@ module _ {t : Types} where
 
   input_does : (m : Meaning t) (i : Input) (x : TraceStep) (choice : Choice) (s : View t) → IsAllowed m i choice (began s (time_of i)) → x.answer ≡ answer_of m i choice (began s (time_of i)) →
       Does i x s (input_after m i choice (began s (time_of i)))
-  unfolding began move_to state_move lower_move life_move deeds_move datagrams_stepped input_after IsAllowed answer_of after frames_sealed ids_stepped
+  unfolding began move_to state_move lower_move life_move deeds_move datagrams_stepped input_after IsAllowed answer_of after told_by_all frames_sealed ids_stepped
   input_does m (input.Datagram time remote ecn bytes) x choice s may answers = other_does m (input.Datagram time remote ecn bytes) x choice s (λ made h. h) refl may
   input_does m (input.Timeout time) x choice s may answers = other_does m (input.Timeout time) x choice s (λ made h. h) refl may
   input_does m (input.Transmit time max) x choice s may answers = other_does m (input.Transmit time max) x choice s (λ made h. h) refl may
   input_does m (input.Close time code reason) x choice s may answers = other_does m (input.Close time code reason) x choice s (λ made h. h) refl may
   input_does m (input.Ping time) x choice s may answers = other_does m (input.Ping time) x choice s (λ made h. h) refl may
   input_does m (input.SendDatagram time body) x choice s may answers = record {
-    made = Sent (datagram_limit (began s time).state) body ∷ [];
+    made = Sent (datagram_limit (began s time).state) true body ∷ [];
     leads = refl;
     makes = λ same. (datagram_limit (began s time).state, refl, answers, subst (λ (ds : List Did). AreOfDeeds ds [] s.lower.datagrams) (sym same) refl);
-    heard = omega arith;
+    heard = sym (append-nil (heard_in s.life.heard));
   }
   input_does m (input.RecvDatagram time) x choice s may answers = record {
     made = Taken ∷ [];
     leads = refl;
     makes = λ same. (refl, answers, subst (λ (ds : List Did). AreOfDeeds ds [] s.lower.datagrams) (sym same) refl);
-    heard = omega arith;
+    heard = sym (append-nil (heard_in s.life.heard));
   }
   input_does m (input.Identifiers time given) x choice s may answers = record {
     made = [];
     leads = refl;
     makes = λ same. subst (λ (ds : List Did). AreOfDeeds ds [] s.lower.datagrams) (sym same) refl;
-    heard = omega arith;
+    heard = sym (append-nil (heard_in s.life.heard));
   }
   input_does m i x choice s may answers =
       let h = called_input Leaves (λ a. record { did = refl; datagrams = refl; heard = refl }) leaves_next call_leaves i choice.read (began s (time_of i)) may in
@@ -341,13 +348,13 @@ module _ {t : Types} where
         made = [];
         leads = h.datagrams;
         makes = λ same. subst (λ (ds : List Did). AreOfDeeds ds [] s.lower.datagrams) (sym (same ∙ h.did)) refl;
-        heard = let same : heard_in (called_all (calls_of i choice.read s.lower.streams) (began s (time_of i))).state.life.heard ≡ heard_in s.life.heard = ap heard_in h.heard in omega (arith, same);
+        heard = ap heard_in h.heard ∙ sym (append-nil (heard_in s.life.heard));
       }
 
   -- ---- steps and runs
 
   step_posts : (m : Meaning t) (k : ℕ) (s : View t) (i : Input) (x : TraceStep) (s' : View t) → IsStep m k s i x s' →
-      (made : List Step) × MakesPosts i x made s.lower.datagrams × (heard_in x.events ≡ heard_in s.life.heard + count_told made s.lower.datagrams) × (s'.lower.datagrams ≡ after made s.lower.datagrams) × (heard_in s'.life.heard ≡ 0)
+      (made : List Step) × MakesPosts i x made s.lower.datagrams × (heard_in x.events ≡ heard_in s.life.heard ++ told_by_all made s.lower.datagrams) × (s'.lower.datagrams ≡ after made s.lower.datagrams) × (heard_in s'.life.heard ≡ [])
   unfolding called run.step_after reported state_move lower_move life_move events_told streams_stepped ready_reported connected_reported all_heard_reported lost_reported notices_reported drained_reported frames_sealed ids_stepped
   step_posts m k s i x s' h =
       let b : At t = input_after m i h.choice (began s (time_of i)) in
@@ -375,7 +382,7 @@ module _ {t : Types} where
           refl,
           one.1,
           one.2,
-          subst (λ (waited : ℕ). ArePosts waited (with_steps is xs) more.steps (after one.0 d)) one.4 (subst (λ (y : Datagrams). ArePosts (heard_in r.0.life.heard) (with_steps is xs) more.steps y) one.3 more.are),
+          subst (λ (waited : List Event). ArePosts waited (with_steps is xs) more.steps (after one.0 d)) one.4 (subst (λ (y : Datagrams). ArePosts (heard_in r.0.life.heard) (with_steps is xs) more.steps y) one.3 more.are),
         );
       }
   run_posts m k s [] (x ∷ xs) s' r = absurd r

@@ -14,6 +14,7 @@ use Rattle.qc_frame.specs.declared.frames.FrameOf.TheVariants as frames
 use Rattle.qc_state.specs.declared.deeds.Did.{Did}
 use Rattle.qc_state.specs.declared.deeds.Did.TheVariants as did
 use Rattle.qc_state.specs.declared.deeds.Layer.TheVariants as layer
+use Rattle.qc_state.specs.declared.events.Event.{Event}
 use Rattle.qc_state.specs.declared.input.Input.{Input}
 use Rattle.qc_state.specs.declared.input.Input.TheVariants as input
 use Rattle.qc_state.specs.declared.trace.Answer.{Answer}
@@ -125,7 +126,7 @@ input_goes (input.RecvDatagram time) x made d h =
     subst (λ (q : List (List ℕ)). Goes [] (datagrams_in (frames_sealed x.did)) d.outgoing q) (sym (ap (λ (xs : List Step). (after xs d).outgoing) h.0)) (deeds_go x.did [] d h.2)
 input_goes _ x made d h = deeds_go x.did made d h
 
-inputs_go : (waited : ℕ) (calls : List (Input × TraceStep)) (xs : List Step) (d : Datagrams) → ArePosts waited calls xs d → Goes (sent_in calls) (sealed_in calls) d.outgoing (after xs d).outgoing
+inputs_go : (waited : List Event) (calls : List (Input × TraceStep)) (xs : List Step) (d : Datagrams) → ArePosts waited calls xs d → Goes (sent_in calls) (sealed_in calls) d.outgoing (after xs d).outgoing
 unfolding after
 inputs_go waited [] xs d h = goes_here d.outgoing (after xs d).outgoing (ap (λ (ys : List Step). (after ys d).outgoing) h)
 inputs_go waited (call ∷ calls) xs d h =
@@ -133,7 +134,7 @@ inputs_go waited (call ∷ calls) xs d h =
     let leads : (after xs d).outgoing ≡ (after h.1 (after made d)).outgoing = ap (λ (ys : List Step). (after ys d).outgoing) h.2 ∙ ap (λ (x : Datagrams). x.outgoing) (posts_append made h.1 d) in
     subst (λ (q : List (List ℕ)). Goes (sent_in (call ∷ calls)) (sealed_in (call ∷ calls)) d.outgoing q) (sym leads)
     (goes_next (sent_by call.0 call.1.answer) (sent_in calls) (datagrams_in (frames_sealed call.1.did)) (sealed_in calls) d.outgoing (after made d).outgoing (after h.1 (after made d)).outgoing
-    (input_goes call.0 call.1 made d h.3) (inputs_go 0 calls h.1 (after made d) h.5))
+    (input_goes call.0 call.1 made d h.3) (inputs_go [] calls h.1 (after made d) h.5))
 
 -- where none waited before, what was sealed was sent
 went : (calls : List (Input × TraceStep)) (q : List (List ℕ)) → Goes (sent_in calls) (sealed_in calls) [] q → AreInOrder (sealed_in calls) (sent_in calls)

@@ -13,6 +13,7 @@ use Rattle.qc_datagrams.proofs.GivenLaw.{gives_in_order}
 use Rattle.qc_frame.specs.Frame.{FrameValue}
 use Rattle.qc_frame.specs.FrameSpelling.{spelling}
 use Rattle.qc_frame.specs.declared.frames.FrameOf.TheVariants as frames
+use Rattle.qc_state.specs.declared.events.Event.{Event}
 use Rattle.qc_state.specs.declared.input.Input.{Input}
 use Rattle.qc_state.specs.declared.input.Input.TheVariants as input
 use Rattle.qc_state.specs.declared.trace.Answer.{Answer}
@@ -154,7 +155,7 @@ input_goes (input.RecvDatagram time) x made d h =
     record { steps = Takes ∷ []; gives = took; leads = ap (λ (xs : List Step). (after xs d).incoming) h.0; among = none_among (given_to_streams x.did) }
 input_goes _ x made d h = deeds_go x.did made d h
 
-inputs_go : (waited : ℕ) (calls : List (Input × TraceStep)) (xs : List Step) (d : Datagrams) → ArePosts waited calls xs d → Goes (given_in calls) (taken_in calls) d.incoming (after xs d).incoming
+inputs_go : (waited : List Event) (calls : List (Input × TraceStep)) (xs : List Step) (d : Datagrams) → ArePosts waited calls xs d → Goes (given_in calls) (taken_in calls) d.incoming (after xs d).incoming
 unfolding after
 inputs_go waited [] xs d h = goes_here [] d.incoming (after xs d).incoming (ap (λ (ys : List Step). (after ys d).incoming) h)
 inputs_go waited (call ∷ calls) xs d h =
@@ -162,7 +163,7 @@ inputs_go waited (call ∷ calls) xs d h =
     let leads : (after xs d).incoming ≡ (after h.1 (after made d)).incoming = ap (λ (ys : List Step). (after ys d).incoming) h.2 ∙ ap (λ (x : Datagrams). x.incoming) (posts_append made h.1 d) in
     subst (λ (q : List (List ℕ)). Goes (given_in (call ∷ calls)) (taken_in (call ∷ calls)) d.incoming q) (sym leads)
     (goes_next (given_to_streams call.1.did) (given_in calls) (taken_by call.0 call.1.answer) (taken_in calls) d.incoming (after made d).incoming (after h.1 (after made d)).incoming
-    (input_goes call.0 call.1 made d h.3) (inputs_go 0 calls h.1 (after made d) h.5))
+    (input_goes call.0 call.1 made d h.3) (inputs_go [] calls h.1 (after made d) h.5))
 
 -- where none came before, what was taken came
 went : (calls : List (Input × TraceStep)) (q : List (List ℕ)) → Goes (given_in calls) (taken_in calls) [] q → TakesCame calls

@@ -8,6 +8,7 @@ use Rattle.qc_base.specs.declared.side.SpaceId.{SpaceId}
 use Rattle.qc_base.specs.declared.side.SpaceId.TheVariants.{Handshake}
 use Rattle.qc_flight.specs.Packets.{Entry}
 use Rattle.qc_frame.specs.Frame.{FrameValue}
+use Rattle.qc_path.specs.Pacing.{Bucket}
 use Rattle.qc_path.specs.declared.controller.Controller.{Ghosts as Control}
 use Rattle.qc_recovery.specs.Losses.{rank}
 use Rattle.qc_recovery.specs.Runs.{AreSettledOnce, Acknowledge, Discard, Fates, Send, call_after, fates_after, fired_lost, in_space}
@@ -26,6 +27,7 @@ use Rattle.qc_state.specs.declared.input.Input.{Input}
 use Rattle.qc_state.specs.declared.life.State.{State}
 use Rattle.qc_state.specs.declared.life.State.TheVariants as state
 use Rattle.qc_state.specs.declared.lower.Lower.{Lower}
+use Rattle.qc_state.specs.declared.paths.Path.{Path}
 use Rattle.qc_state.specs.declared.paths.Paths.{Paths}
 use Rattle.qc_state.specs.declared.trace.Step.{Step}
 use Rattle.qc_state.specs.Keys.{epoch_in}
@@ -35,20 +37,21 @@ use Rattle.qc_state.specs.Forms.{number_space, is_early}
 use Rattle.qc_state.specs.Headline.{deeds_of}
 use Rattle.qc_state.specs.Life.{is_open, rank_of}
 use Rattle.qc_state.specs.Lower.{bytes_came, flight_dropped, packet_flown, packets_settled, session_read, session_wrote, timer_fired, limits_learned, frame_handed, streams_closed, streams_stepped, events_told, datagrams_stepped, frames_sealed, ids_stepped}
-use Rattle.qc_state.specs.Moves.{Accept, Ack, Arm, Ask, Begin, Clock, Come, Confirm, PeerClosesToo, Enter, Establish, Expect, Fail, Finish, Fire, Fix, Forget, Give, Hear, IsTold, Learn, PeerCloses, MayMove, Move, Owe, Pace, Raise, Read, Ready, Release, Say, Seal, Shut, Skip, Take, Tell, Token, Want, Write, deeds_move, is_close, lower_move, move_to, paths_move, state_move, waiting_move, Call, Hand, Post, Insert, Switch, Retire, Issue, Outlive}
+use Rattle.qc_state.specs.Moves.{Accept, Ack, Arm, Ask, Begin, Clock, Come, Confirm, PeerClosesToo, Enter, Establish, Expect, Fail, Finish, Fire, Fix, Forget, Give, Hear, IsTold, Learn, PeerCloses, MayMove, Move, Owe, Pace, Raise, Read, Ready, Release, Say, Seal, Shut, Skip, Take, Tell, Token, Want, Write, deeds_move, is_close, lower_move, move_to, paths_move, state_move, waiting_move, Call, Hand, Post, Insert, Switch, Retire, Issue, Outlive, Hold, Spend}
 use Rattle.qc_state.specs.Numbers.{next_number, received_number}
-use Rattle.qc_state.specs.Paths.{path_accepted, path_idle, path_kept, path_received, path_sent, path_spun, peer_fixed, spun_by, path_named}
+use Rattle.qc_state.specs.Paths.{path_accepted, path_kept, path_received, path_sent, path_spun, peer_fixed, spun_by, path_named}
 use Rattle.qc_state.specs.Recovering.{fired_by, settled_by}
-use Rattle.qc_laws.specs.RecoveryLaws.{AllMay, AreFlown, Dropped, EachSettlesOnce, Fired, Kept, MayStep, RecoveryStep, Recovers, Sent, Settled, kept, sent_in, step_after, steps_after, steps_of}
+use Rattle.qc_laws.specs.RecoveryLaws.{AllMay, AreFlown, Dropped, EachSettlesOnce, Fired, Kept, MayStep, RecoveryStep, Recovers, Sent, Settled, Spent, Told, kept, sent_in, step_after, steps_after, steps_of}
 use Rattle.qc_state.specs.Run.{IsStep, Run, began, called, input_after, reported, time_of}
 use Rattle.qc_state.specs.Run as run
-use Rattle.qc_state.specs.Sending.{packet_size}
+use Rattle.qc_state.specs.Sending.{packet_size, rate_of}
 use Rattle.qc_state.specs.Types.{Types, Meaning}
 use Rattle.qc_state.specs.View.{View, At}
 use Rattle.qc_state.specs.Waiting.{waiting_without}
 use Rattle.qc_laws.proofs.EndsHold.{began_ends, ends_seal, known_keeps, step_ends}
-use Rattle.qc_laws.proofs.KnownMoves.{IsFiredBy, IsKnownMove, IsSettledBy, known_input}
+use Rattle.qc_laws.proofs.KnownMoves.{IsFiredBy, IsKnownMove, IsSettledBy, IsSpentBy, IsToldBy, known_input}
 use Rattle.qc_state.proofs.Probed.{begun_streams}
+use Rattle.qc_state.proofs.Quieted.{quiet_current}
 use Rattle.qc_state.proofs.Telling.{told_appends}
 use Rattle.qc_state.proofs.Transmitted.{IsSealable}
 use Rattle.qc_laws.proofs.StreamCalls.{handed_told}
@@ -79,6 +82,8 @@ module _ {C : Type 0} where
   sent_append id (Settled space after ∷ xs) ys = sent_append id xs ys
   sent_append id (Fired after ∷ xs) ys = sent_append id xs ys
   sent_append id (Dropped space ∷ xs) ys = sent_append id xs ys
+  sent_append id (Spent tokens ∷ xs) ys = sent_append id xs ys
+  sent_append id (Told control ∷ xs) ys = sent_append id xs ys
 
 -- the packets in flight of deeds that come one after the other
 pub flown_append : (id : SpaceId) (ds es : List Did) (xs ys : List Entry) → AreFlown id ds xs → AreFlown id es ys → AreFlown id (ds ++ es) (xs ++ ys)
@@ -159,6 +164,14 @@ module _ {t : Types} where
   unfolding fired_by
   fired_may m after s h = record { now = h.time; around = _; is = h.is }
 
+  -- so are what the pacer and the controller are left with
+  spent_may : (m : Meaning t) (tokens : Bucket) (s : View t) → IsSpentBy m tokens s → MayStep m.control (Spent tokens) (kept s)
+  unfolding rate_of
+  spent_may m tokens s h = record { now = h.time; size = h.size; is = h.is }
+
+  told_may : (m : Meaning t) (control : t.C) (s : View t) → IsToldBy m control s → MayStep m.control (Told control) (kept s)
+  told_may m control s h = record { now = h.time; bytes = h.bytes; last = h.last; is = h.is }
+
   -- what recovery keeps stands in two groups
   pub kept_same : (s s' : View t) → s.lower ≡ s'.lower → s.paths ≡ s'.paths → kept s ≡ kept s'
   kept_same s s' lower paths =
@@ -178,7 +191,7 @@ module _ {t : Types} where
   -- each move beside those with which a packet is taken and sealed
   pub move_parts : (m : Meaning t) (x : Move t) (s : View t) → IsKnownMove m x s → MayMove x s →
       AllMay m.control (steps_of x s) (kept s) × (kept (state_move x s) ≡ steps_after (steps_of x s) (kept s)) × ((id : SpaceId) → AreFlown id (deeds_move x s) (sent_in id (steps_of x s)))
-  unfolding steps_of step_after state_move lower_move paths_move deeds_move flight_dropped packets_settled timer_fired bytes_came session_read session_wrote limits_learned frame_handed streams_closed streams_stepped datagrams_stepped path_idle path_kept path_named path_received path_sent peer_fixed MayMove frames_sealed ids_stepped
+  unfolding steps_of step_after state_move lower_move paths_move deeds_move flight_dropped packets_settled timer_fired bytes_came session_read session_wrote limits_learned frame_handed streams_closed streams_stepped datagrams_stepped path_kept path_named path_received path_sent peer_fixed MayMove frames_sealed ids_stepped
   move_parts m (Clock time) s k may = absurd k
   move_parts m (Ask id) s k may = (tt, refl, (λ id. refl))
   move_parts m (Take id fs) s k may = absurd k
@@ -214,8 +227,10 @@ module _ {t : Types} where
   move_parts m (Shut time close) s k may = (tt, refl, (λ id. refl))
   move_parts m (Raise to) s k may = (tt, refl, (λ id. refl))
   move_parts m (Give why) s k may = (tt, refl, (λ id. refl))
-  move_parts m (Finish bytes) s k may = (tt, refl, (λ id. refl))
-  move_parts m (Say quiet) s k may = (tt, refl, (λ id. refl))
+  move_parts m (Spend tokens) s k may = ((spent_may m tokens s k, tt), refl, (λ id. refl))
+  move_parts m (Hold until) s k may = (tt, refl, (λ id. refl))
+  move_parts m (Finish bytes control) s k may = ((told_may m control s k, tt), refl, (λ id. refl))
+  move_parts m (Say quiet) s k may = (tt, ap (λ (p : Path t.C). record { recovery = s.lower.recovery; path = p.kept }) (quiet_current s.paths quiet), (λ id. refl))
   move_parts m (Hand frame) s k may = (tt, refl, (λ id. handed_told (λ ds. AreFlown id ds []) frame refl (λ body. refl)))
   move_parts m (Call x) s k may = (tt, refl, (λ id. refl))
   move_parts m (Post x) s k may = (tt, refl, (λ id. refl))
@@ -291,6 +306,8 @@ module _ {C : Type 0} where
   step_fates id (Settled space after) k f = record f { acked = f.acked ++ in_space id space after.acked; lost = f.lost ++ in_space id space after.lost }
   step_fates id (Fired after) k f = record f { lost = f.lost ++ fired_lost id after.fired }
   step_fates id (Dropped space) k f = record f { dropped = f.dropped ++ in_space id space (recovery.space_of space k.recovery).flight }
+  step_fates id (Spent tokens) k f = f
+  step_fates id (Told control) k f = f
 
   abbrev steps_fates : SpaceId → List (RecoveryStep C) → Kept C → Fates → Fates
   steps_fates id [] k f = f
@@ -307,6 +324,8 @@ module _ {C : Type 0} where
       subst (λ (a : FiredAfter C). AreSettledOnce id a.recovery (record f { lost = f.lost ++ fired_lost id a.fired })) (sym may.is)
       (calls_settle m id (runs.Fire may.now may.around k.path ∷ []) k.recovery f h)
   step_settles m id (Dropped space) k f may h = calls_settle m id (Discard space ∷ []) k.recovery f h
+  step_settles m id (Spent tokens) k f may h = h
+  step_settles m id (Told control) k f may h = h
 
   steps_settle : (m : Control C) (id : SpaceId) (xs : List (RecoveryStep C)) (k : Kept C) (f : Fates) → AllMay m xs k → AreSettledOnce id k.recovery f → AreSettledOnce id (steps_after xs k).recovery (steps_fates id xs k f)
   steps_settle m id [] k f may h = h
@@ -320,6 +339,8 @@ module _ {C : Type 0} where
   fates_sent id (Settled space after ∷ xs) k f = fates_sent id xs (step_after (Settled space after) k) (step_fates id (Settled space after) k f)
   fates_sent id (Fired after ∷ xs) k f = fates_sent id xs (step_after (Fired after) k) (step_fates id (Fired after) k f)
   fates_sent id (Dropped space ∷ xs) k f = fates_sent id xs (step_after (Dropped space) k) (step_fates id (Dropped space) k f)
+  fates_sent id (Spent tokens ∷ xs) k f = fates_sent id xs (step_after (Spent tokens) k) f
+  fates_sent id (Told control ∷ xs) k f = fates_sent id xs (step_after (Told control) k) f
 
 module _ {t : Types} where
   -- each packet is settled once

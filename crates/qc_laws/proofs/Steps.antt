@@ -45,13 +45,13 @@ unread = choice_of (Err Blocked)
 
 module _ {t : Types} where
   pub calls_transmit : (m : Meaning t) (s : View t) (time max : ℕ) (b : At t) (sent : Option Transmit) (buffer : List ℕ) (answer : Answer) →
-      Transmits m time (began s time) b sent buffer → answer ≡ out_of sent buffer → Calls m s (input.Transmit time max) b answer
+      Transmits m time max (began s time) b sent buffer → answer ≡ out_of sent buffer → Calls m s (input.Transmit time max) b answer
   unfolding began input_after called IsAllowed answer_of
   calls_transmit m s time max b sent buffer answer h e = record {
     choice = h.choice;
     leads = h.leads;
     allowed = h.may;
-    answers = e ∙ ap (λ (x : Option Transmit). out_of x buffer) h.answer ∙ ap (λ (x : List ℕ). out_of (transmit_of m time h.choice (began s time)) x) h.bytes;
+    answers = e ∙ ap (λ (x : Option Transmit). out_of x buffer) h.answer ∙ ap (λ (x : List ℕ). out_of (transmit_of m time max h.choice (began s time)) x) h.bytes;
   }
 
   pub calls_timeout : (m : Meaning t) (s mid : View t) (time : ℕ) (ds : List Did) (b : At t) (answer : Answer) →
@@ -75,12 +75,12 @@ module _ {t : Types} where
   }
 
   -- a datagram of the application is sent, and one is taken
-  pub calls_send : (m : Meaning t) (s mid : View t) (time : ℕ) (body : List ℕ) (b : View t) (ds : List Did) (answer : Answer) → mid ≡ state_move (Clock time) s → b ≡ state_move (Post (datagrams.Sent (datagram_limit mid) body)) mid → ds ≡ [] →
+  pub calls_send : (m : Meaning t) (s mid : View t) (time : ℕ) (body : List ℕ) (b : View t) (ds : List Did) (answer : Answer) → mid ≡ state_move (Clock time) s → b ≡ state_move (Post (datagrams.Sent (datagram_limit mid) true body)) mid → ds ≡ [] →
       answer ≡ sent_answer (send_refusal (datagram_limit mid) true body mid.lower.datagrams) → Calls m s (input.SendDatagram time body) (at b ds) answer
   unfolding began input_after called IsAllowed answer_of move_to deeds_move
   calls_send m s mid time body b ds answer is_mid is_b is_ds e = record {
     choice = unread;
-    leads = ap (λ (x : List Did). at b x) is_ds ∙ ap (λ (x : View t). at x []) (is_b ∙ ap (λ (x : View t). state_move (Post (datagrams.Sent (datagram_limit x) body)) x) is_mid);
+    leads = ap (λ (x : List Did). at b x) is_ds ∙ ap (λ (x : View t). at x []) (is_b ∙ ap (λ (x : View t). state_move (Post (datagrams.Sent (datagram_limit x) true body)) x) is_mid);
     allowed = tt;
     answers = e ∙ ap (λ (x : View t). sent_answer (send_refusal (datagram_limit x) true body x.lower.datagrams)) is_mid;
   }
@@ -236,11 +236,11 @@ module _ {t : Types} where
   ran m k s is xs last n e r = record { last = last; run = subst (λ (l : ℕ). Run m k s (take l is) xs last) (sym e) r }
 
   -- a transmit once the connection was told the time
-  pub transmits_began : (m : Meaning t) (s mid : View t) (time : ℕ) (ds : List Did) (b : At t) (sent : Option Transmit) (buffer : List ℕ) →
-      mid ≡ state_move (Clock time) s → ds ≡ [] → Transmits m time (at mid ds) b sent buffer → Transmits m time (began s time) b sent buffer
+  pub transmits_began : (m : Meaning t) (s mid : View t) (time asked : ℕ) (ds : List Did) (b : At t) (sent : Option Transmit) (buffer : List ℕ) →
+      mid ≡ state_move (Clock time) s → ds ≡ [] → Transmits m time asked (at mid ds) b sent buffer → Transmits m time asked (began s time) b sent buffer
   unfolding began
-  transmits_began m s mid time ds b sent buffer is_mid is_ds h =
-      subst (λ (a : At t). Transmits m time a b sent buffer) (ap (λ (x : List Did). at mid x) is_ds ∙ ap (λ (x : View t). at x []) is_mid) h
+  transmits_began m s mid time asked ds b sent buffer is_mid is_ds h =
+      subst (λ (a : At t). Transmits m time asked a b sent buffer) (ap (λ (x : List Did). at mid x) is_ds ∙ ap (λ (x : View t). at x []) is_mid) h
 
   -- what is reported, one after the other, is all that waited
   pub events_wait : (s2 s3 s4 s5 s6 : View t) → s3 ≡ state_move ReportReady s2 → s4 ≡ state_move ReportConnected s3 → s5 ≡ state_move ReportAllHeard s4 → s6 ≡ state_move ReportStreams s5 →

@@ -252,10 +252,10 @@ module _ {t : Types} (id : SpaceId) where
   unfolding IsAllowed input_after close_after lower_move deeds_move streams_stepped datagrams_stepped stream_of frames_sealed ids_stepped
   input_kept m (input.Datagram time remote ecn bytes) choice a may = datagram_kept m (record { time = time; remote = remote; mark = ecn }) bytes a
   input_kept m (input.Timeout time) choice a may = holds_timeout Kept kept_here kept_next (λ x h b may_be. timed_kept x h b) m time a
-  input_kept m (input.Transmit time max) choice a may = holds_transmit Kept kept_here kept_next (λ x r b h. sending_kept x r b) (λ at form fs b h. seal_kept at form fs b) m time choice a may
+  input_kept m (input.Transmit time max) choice a may = holds_transmit Kept kept_here kept_next (λ x r b h. sending_kept x r b) (λ at form fs b h. seal_kept at form fs b) m time max choice a may
   input_kept m (input.Close time code reason) choice a may = shut_kept time _ a (is_open a.state.life.state)
   input_kept m (input.Ping time) choice a may = still_kept (Ask a.state.keys.highest) a refl (λ now. refl)
-  input_kept m (input.SendDatagram time body) choice a may = still_kept (Post (datagrams.Sent (datagram_limit a.state) body)) a refl (λ now. refl)
+  input_kept m (input.SendDatagram time body) choice a may = still_kept (Post (datagrams.Sent (datagram_limit a.state) true body)) a refl (λ now. refl)
   input_kept m (input.RecvDatagram time) choice a may = still_kept (Post datagrams.Taken) a refl (λ now. refl)
   input_kept m (input.Identifiers time given) choice a may = still_kept (Issue time given) a refl (λ now. refl)
   input_kept m i choice a may = called_input Kept kept_here kept_next (λ x b h. still_kept (Call x) b refl (λ now. refl)) i choice.read a may

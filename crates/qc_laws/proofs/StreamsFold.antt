@@ -14,7 +14,7 @@ use Rattle.qc_streams.proofs.StepsLaw.{after_append}
 use Rattle.qc_state.specs.declared.deeds.Did.{Did}
 use Rattle.qc_state.specs.declared.deeds.Did.TheVariants as did
 use Rattle.qc_state.specs.declared.events.Event.{Event}
-use Rattle.qc_state.specs.declared.events.Event.TheVariants.{HandshakeDataReady, Connected, Stream, ConnectionLost, DatagramReceived}
+use Rattle.qc_state.specs.declared.events.Event.TheVariants.{HandshakeDataReady, Connected, Stream, ConnectionLost, DatagramReceived, DatagramsUnblocked}
 use Rattle.qc_state.specs.declared.form.Form.{Form}
 use Rattle.qc_state.specs.declared.input.Input.{Input}
 use Rattle.qc_state.specs.declared.input.Input.TheVariants as input
@@ -79,6 +79,7 @@ events_append (HandshakeDataReady ∷ es) fs = events_append es fs
 events_append (Connected ∷ es) fs = events_append es fs
 events_append (Stream event ∷ es) fs = ap (λ (xs : List StreamEvent). event ∷ xs) (events_append es fs)
 events_append (DatagramReceived ∷ es) fs = events_append es fs
+events_append (DatagramsUnblocked ∷ es) fs = events_append es fs
 events_append (ConnectionLost why ∷ es) fs = events_append es fs
 
 -- of the events that wait, those of streams
@@ -96,6 +97,7 @@ stream_events es o = mapped_events es _ ∙ ap (λ (xs : List StreamEvent). es +
 heard_events : (hs fs : List Event) → list_all events.is_heard hs ≡ true → streams_told (hs ++ fs) ≡ streams_told fs
 heard_events [] fs h = refl
 heard_events (DatagramReceived ∷ hs) fs h = heard_events hs fs h
+heard_events (DatagramsUnblocked ∷ hs) fs h = heard_events hs fs h
 heard_events (_ ∷ hs) fs h = cc
 
 waiting_by : (r c : Bool) (hs : List Event) (es : List StreamEvent) (o : Option ConnectionError) → list_all events.is_heard hs ≡ true →
@@ -254,7 +256,7 @@ module _ {t : Types} where
   input_does m (input.Transmit time max) x choice s may answers = other_does m (input.Transmit time max) x choice s refl may
   input_does m (input.Close time code reason) x choice s may answers = other_does m (input.Close time code reason) x choice s refl may
   input_does m (input.Ping time) x choice s may answers = other_does m (input.Ping time) x choice s refl may
-  input_does m (input.SendDatagram time body) x choice s may answers = post_does (datagrams.Sent (datagram_limit (began s time).state) body) (input.SendDatagram time body) x choice s refl
+  input_does m (input.SendDatagram time body) x choice s may answers = post_does (datagrams.Sent (datagram_limit (began s time).state) true body) (input.SendDatagram time body) x choice s refl
   input_does m (input.RecvDatagram time) x choice s may answers = post_does datagrams.Taken (input.RecvDatagram time) x choice s refl
   input_does m (input.Identifiers time given) x choice s may answers = issue_does time given (input.Identifiers time given) x choice s refl
   input_does m i x choice s may answers =

@@ -1,5 +1,5 @@
 -- Over a run the loss timer stands where an acknowledgement is waited for.
-use Rattle.std.proofs.Common.{◌≡◌, ℕ, ◌+◌, List, [], ◌∷◌, ◌++◌, length, refl, ap, sym, ◌∙◌, subst, Bool, true, false, Option, Some, None, if◌then◌else◌, append_assoc, append-nil, arith}
+use Rattle.std.proofs.Common.{◌≡◌, ℕ, ◌+◌, ◌<◌, List, [], ◌∷◌, ◌++◌, length, refl, ap, sym, ◌∙◌, subst, Bool, true, false, Option, Some, None, if◌then◌else◌, append_assoc, append-nil, arith}
 use Rattle.std.specs.Prelude.{not, is_none}
 use Rattle.qc_base.specs.declared.side.Side.TheVariants.{Client}
 use Rattle.qc_base.specs.declared.side.SpaceId.{SpaceId}
@@ -9,7 +9,8 @@ use Rattle.qc_header.specs.HeaderGrammar.{DatagramItem}
 use Rattle.qc_state.specs.declared.coming.Coming.{Coming}
 use Rattle.qc_state.specs.declared.deeds.Did.{Did}
 use Rattle.qc_state.specs.declared.deeds.Did.TheVariants as did
-use Rattle.qc_state.specs.declared.deeds.Quiet.TheVariants.{Killed}
+use Rattle.qc_state.specs.declared.deeds.Quiet.{Quiet}
+use Rattle.qc_state.specs.declared.deeds.Quiet.TheVariants.{NothingOwed, Silent, Amplification, Congestion, Pacing, Killed}
 use Rattle.qc_state.specs.declared.form.Form.{Form}
 use Rattle.qc_state.specs.declared.input.Input.{Input}
 use Rattle.qc_state.specs.declared.input.Input.TheVariants as input
@@ -26,31 +27,32 @@ use Rattle.qc_state.specs.Forms.{is_early, number_space}
 use Rattle.qc_state.specs.Headline.{deeds_of}
 use Rattle.qc_state.specs.Keys.{epoch_in, has_keys_for}
 use Rattle.qc_state.specs.Life.{is_drained, is_open}
-use Rattle.qc_state.specs.Moves.{Ack, Arm, Ask, Begin, Clock, Establish, Expect, Finish, Fire, Forget, Give, Hear, MayMove, Move, Pace, Raise, Release, ReportConnected, ReportDrained, ReportLost, ReportNotices, ReportReady, Say, Seal, Shut, Skip, Tell, Write, armed_after, armed_with, deeds_move, keys_move, move_to, paths_move, state_move, Call, ReportStreams, Post, ReportAllHeard, Outlive, Want, Issue}
+use Rattle.qc_state.specs.Moves.{Ack, Arm, Ask, Begin, Clock, Establish, Expect, Finish, Fire, Forget, Give, Hear, MayMove, Move, Pace, Raise, Release, ReportConnected, ReportDrained, ReportLost, ReportNotices, ReportReady, Say, Seal, Shut, Skip, Spend, Tell, Write, armed_after, armed_with, deeds_move, keys_move, move_to, paths_move, state_move, Call, Hold, ReportStreams, Post, ReportAllHeard, Outlive, Want, Issue}
 use Rattle.qc_state.specs.Numbers.{next_number}
-use Rattle.qc_state.specs.Paths.{is_blocked, path_idle, path_kept}
+use Rattle.qc_state.specs.Paths.{is_blocked, path_kept}
 use Rattle.qc_state.specs.Receiving.{counted_after, cut_of, datagram_after, first_after, first_token, heard_after, pieces_after}
 use Rattle.qc_state.specs.Recovering.{fired_by, is_validated_by_peer, loss_time}
 use Rattle.qc_state.specs.Run.{IsAllowed, IsStep, Run, began, called, close_after, input_after, reported, step_after, time_of, datagram_limit}
-use Rattle.qc_state.specs.Sending.{Choice, Died, Ending, Going, Hushed, MayAll, MayEnd, MayFollow, MayTransmit, Sent, Went, begun_after, drops_initial, ending_after, finished_after, flown_after, going_from, gone_after, handshake_left, initial_left, is_flown, packet_after, packets_after, sealed_in, spared_after, transmit_after}
+use Rattle.qc_state.specs.Sending.{Choice, Died, Ending, Going, Held, Hushed, MayAll, MayEnd, MayFollow, MayOpen, MayStand, MayTransmit, Sent, Went, begun_after, drops_initial, ending_after, finished_after, flown_after, going_from, gone_after, handshake_left, initial_left, is_flown, packet_after, packets_after, sealed_in, spared_after, spent_after, told_sent, transmit_after, held_after}
 use Rattle.qc_state.specs.Stopping.{given_after, key_limit_error, killed_after}
 use Rattle.qc_laws.specs.TimerLaws.{KeepsTimer, TimerHolds, awaits_ack, elicits_in, has_asked, has_probe_keys, must_probe, sealed_since}
 use Rattle.qc_state.specs.Timeouts.{ack_expired, close_expired, idle_expired, loss_expired, pacing_expired, timeout_after, ids_expired, wanted_anew}
 use Rattle.qc_state.specs.Timers.{has_come}
 use Rattle.qc_state.specs.Types.{Types, Meaning}
 use Rattle.qc_state.specs.View.{View, At}
-use Rattle.qc_state.proofs.Batches.{packet_made}
+use Rattle.qc_state.proofs.Batches.{first_opens}
 use Rattle.qc_state.proofs.Begun.{begun_keys, holds_begun}
 use Rattle.qc_state.proofs.Ends.{given_by, stopped_by}
-use Rattle.qc_laws.proofs.EndsHold.{began_ends, known_keeps, step_ends}
+use Rattle.qc_laws.proofs.EndsHold.{began_ends, ends_seal, known_keeps, step_ends}
 use Rattle.qc_state.proofs.Expired.{IsTimed, holds_timeout}
-use Rattle.qc_laws.proofs.KnownMoves.{packet_known}
+use Rattle.qc_laws.proofs.KnownMoves.{IsKnownMove, packet_known}
 use Rattle.qc_state.proofs.OpenPackets.{holds_packet}
 use Rattle.qc_state.proofs.PacketMoves.{IsInPacket, OpenPacket}
 use Rattle.qc_state.proofs.ReceivedMoves.{IsUnopened, close_for}
 use Rattle.qc_laws.proofs.Receives.{pieces_hold}
 use Rattle.qc_state.proofs.Telling.{told_appends}
-use Rattle.qc_state.proofs.Transmitted.{begins_keyed}
+use Rattle.qc_state.proofs.Quieted.{held_paths, quiet_blocked}
+use Rattle.qc_state.proofs.Transmitted.{IsUnspent, begins_keyed, free_unblocked, packets_told}
 use Rattle.qc_laws.proofs.TimerMoves.{HoldsIf, IsFree, IsPlain, arm_holds, holds_if, plain_free, plain_holds, sealed_holds, since_append, timer_holds}
 use Rattle.qc_laws.proofs.StreamCalls.{called_input}
 use Rattle.qc_datagrams.specs.Steps as datagrams
@@ -168,7 +170,7 @@ module _ {t : Types} where
   unfolding MayMove
   packet_frees m o free (Arm at) a h may = frees_timer free o.coming.time at a h
   packet_frees m o free (Seal time form n size fs) a h may = absurd h
-  packet_frees m o free (Finish bytes) a h may = absurd h
+  packet_frees m o free (Finish bytes control) a h may = absurd h
   packet_frees m o free (Hear bytes) a h may = absurd h
   packet_frees m o free (Fire after) a h may = absurd h
   packet_frees m o free (Raise to) a h may = absurd h
@@ -185,7 +187,7 @@ module _ {t : Types} where
   unfolding MayMove
   unopened_frees m at_time free (Arm at) a h may = absurd h
   unopened_frees m at_time free (Seal time form n size fs) a h may = absurd h
-  unopened_frees m at_time free (Finish bytes) a h may = absurd h
+  unopened_frees m at_time free (Finish bytes control) a h may = absurd h
   unopened_frees m at_time free (Hear bytes) a h may = absurd h
   unopened_frees m at_time free (Fire after) a h may = absurd h
   unopened_frees m at_time free (Ack id n after) a h may = absurd h
@@ -304,21 +306,21 @@ module _ {t : Types} where
 
   -- ---- transmits
 
-  flown_deeds : (time : ℕ) (a : At t) (b : Bool) → (flown_after time b a).did ≡ a.did
-  unfolding armed_with move_to deeds_move
-  flown_deeds time a true = refl
-  flown_deeds time a false = refl
+  flown_deeds : (m : Meaning t) (time size : ℕ) (a : At t) (b : Bool) → (flown_after m time size b a).did ≡ a.did
+  unfolding armed_with spent_after move_to deeds_move
+  flown_deeds m time size a true = refl
+  flown_deeds m time size a false = refl
 
-  sealed_deeds : (time : ℕ) (form : Form) (fs : List FrameValue) (a : At t) →
-      (sealed_in time form fs a).did ≡ a.did ++ did.Sealed (number_space form) (next_number a.state.numbers (number_space form)) (epoch_in a.state.keys form) (is_early form) fs ∷ []
+  sealed_deeds : (m : Meaning t) (time : ℕ) (form : Form) (fs : List FrameValue) (a : At t) →
+      (sealed_in m time form fs a).did ≡ a.did ++ did.Sealed (number_space form) (next_number a.state.numbers (number_space form)) (epoch_in a.state.keys form) (is_early form) fs ∷ []
   unfolding sealed_in move_to state_move keys_move deeds_move
-  sealed_deeds time form fs a = flown_deeds time _ (is_flown a.state fs)
+  sealed_deeds m time form fs a = flown_deeds m time _ _ (is_flown a.state fs)
 
-  keeps_sealed : (free : Bool) (time : ℕ) (form : Form) (fs : List FrameValue) (a : At t) → Ends a.state → has_keys_for a.state.keys form ≡ true → Keeps free a (sealed_in time form fs a)
-  keeps_sealed free time form fs a ends keyed = record {
+  keeps_sealed : (m : Meaning t) (free : Bool) (time : ℕ) (form : Form) (fs : List FrameValue) (a : At t) → Ends a.state → has_keys_for a.state.keys form ≡ true → Keeps free a (sealed_in m time form fs a)
+  keeps_sealed m free time form fs a ends keyed = record {
     since = did.Sealed (number_space form) (next_number a.state.numbers (number_space form)) (epoch_in a.state.keys form) (is_early form) fs ∷ [];
-    appended = sealed_deeds time form fs a;
-    holds = λ late h. sealed_holds free late time form fs a ends.owed keyed h;
+    appended = sealed_deeds m time form fs a;
+    holds = λ late h. sealed_holds m free late time form fs a ends.owed keyed h;
   }
 
   begun_ends : (m : Meaning t) (id : SpaceId) (opens : Bool) (a : At t) → Ends a.state → Ends (begun_after id opens a).state
@@ -326,14 +328,14 @@ module _ {t : Types} where
   begun_ends m id opens a ends =
       holds_begun (λ (b c : At t). Ends b.state → Ends c.state) (λ b h. h) (λ b c d g h e. h (g e)) id opens a (λ b. known_keeps m (Begin id opens) b tt tt) (λ b may. known_keeps m Skip b tt may) ends
 
-  packet_keeps : (m : Meaning t) (free : Bool) (time : ℕ) (p : Sent) (g : Going t) → Ends g.now.state → MayFollow time g.now.state g.batch p → Keeps free g.now (packet_after m time p g).now
+  packet_keeps : (m : Meaning t) (free : Bool) (time : ℕ) (p : Sent) (g : Going t) → Ends g.now.state → MayFollow m time g.now.state g.batch p → Keeps free g.now (packet_after m time p g).now
   unfolding packet_after
   packet_keeps m free time p g ends may =
       let id : SpaceId = number_space p.form in
       let b : At t = begun_after id p.opens g.now in
       keeps_next free g.now b _ (holds_begun (Keeps free) (keeps_here free) (keeps_next free) id p.opens g.now (λ c. keeps_plain m free (Begin id p.opens) c tt) (λ c may. keeps_plain m free Skip c tt))
-      (keeps_sealed free time p.form p.frames b (begun_ends m id p.opens g.now ends)
-      (ap (λ (k : KeyGroup t.H t.P). has_keys_for k p.form) (begun_keys id p.opens g.now) ∙ begins_keyed g.batch.closing g.now.state p.form may.begins))
+      (keeps_sealed m free time p.form p.frames b (begun_ends m id p.opens g.now ends)
+      (ap (λ (k : KeyGroup t.H t.P). has_keys_for k p.form) (begun_keys id p.opens g.now) ∙ begins_keyed m time g.now.state g.batch p.form p.opens may.begins))
 
   left_keeps : (m : Meaning t) (free : Bool) (time : ℕ) (a : At t) (b : Bool) → Keeps free a (if b then armed_with false time (move_to (Forget Initial) a) else a)
   left_keeps m free time a true = let b : At t = move_to (Forget Initial) a in keeps_next free a b _ (keeps_plain m free (Forget Initial) a refl) (keeps_arm free false time b (λ f. refl))
@@ -351,13 +353,27 @@ module _ {t : Types} where
       stopped_by (Keeps free) (keeps_here free) (keeps_next free) time key_limit_error a (λ low. keeps_plain m free (Shut time (close_for key_limit_error)) a tt) (λ none. keeps_plain m free (Give (lost.TransportError key_limit_error)) b tt)
   spared_keeps m free time false a = keeps_here free a
 
-  ending_keeps : (m : Meaning t) (free : Bool) (time : ℕ) (e : Ending) (b : Batch) (a : At t) → Keeps free a (ending_after time e b a)
-  unfolding ending_after finished_after
-  ending_keeps m free time Went b a =
+  held_keeps : (m : Meaning t) (free : Bool) (time : ℕ) (quiet : Quiet) (b : Batch) (a : At t) → Keeps free a (held_after m time quiet b a)
+  unfolding held_after
+  held_keeps m free time Pacing b a = keeps_plain m free (Hold _) a tt
+  held_keeps m free time NothingOwed b a = keeps_here free a
+  held_keeps m free time Silent b a = keeps_here free a
+  held_keeps m free time Amplification b a = keeps_here free a
+  held_keeps m free time Congestion b a = keeps_here free a
+  held_keeps m free time Killed b a = keeps_here free a
+
+  finished_keeps : (m : Meaning t) (free : Bool) (time : ℕ) (b : Batch) (a : At t) → Keeps free a (finished_after m time b a)
+  unfolding finished_after told_sent
+  finished_keeps m free time b a =
       let c : At t = handshake_left time b.shook a in
       let d : At t = spared_after time b.worn c in
-      keeps_next free a c _ (shook_keeps m free time b.shook a) (keeps_next free c d _ (spared_keeps m free time b.worn c) (keeps_plain m free (Finish b.total) d tt))
-  ending_keeps m free time (Hushed quiet) b a = keeps_plain m free (Say quiet) a tt
+      keeps_next free a c _ (shook_keeps m free time b.shook a) (keeps_next free c d _ (spared_keeps m free time b.worn c) (keeps_plain m free (Finish b.total _) d tt))
+
+  ending_keeps : (m : Meaning t) (free : Bool) (time : ℕ) (e : Ending) (b : Batch) (a : At t) → Keeps free a (ending_after m time e b a)
+  unfolding ending_after
+  ending_keeps m free time Went b a = finished_keeps m free time b a
+  ending_keeps m free time Held b a = let c : At t = held_after m time Pacing b a in keeps_next free a c _ (held_keeps m free time Pacing b a) (finished_keeps m free time b c)
+  ending_keeps m free time (Hushed quiet) b a = let c : At t = held_after m time quiet b a in keeps_next free a c _ (held_keeps m free time quiet b a) (keeps_plain m free (Say quiet) c tt)
   ending_keeps m free time (Died why) b a = let c : At t = killed_after why a in keeps_next free a c _ (keeps_killed m free why a) (keeps_plain m free (Say Killed) c tt)
 
   -- a transmit that seals nothing leaves the path
@@ -370,24 +386,50 @@ module _ {t : Types} where
   unfolding killed_after given_after
   killed_paths why a = given_paths why a (is_none (move_to (Raise state.Drained) a).state.life.reason)
 
-  quiet_stays : (time : ℕ) (e : Ending) (b : Batch) (a : At t) → b.made ≡ 0 → MayEnd e a.state b → is_blocked a.state.paths ≡ true → is_blocked (ending_after time e b a).state.paths ≡ true
-  unfolding ending_after move_to state_move paths_move path_idle is_blocked
-  quiet_stays time Went b a none may h = absurd (omega (arith, none, may))
-  quiet_stays time (Hushed quiet) b a none may h = h
-  quiet_stays time (Died why) b a none may h = ap (λ (p : Paths t.C). is_blocked p) (killed_paths why a) ∙ h
+  quiet_stays : (m : Meaning t) (time : ℕ) (e : Ending) (b : Batch) (a : At t) → b.made ≡ 0 → MayEnd m time e a.state b → is_blocked a.state.paths ≡ true → is_blocked (ending_after m time e b a).state.paths ≡ true
+  unfolding ending_after move_to state_move paths_move
+  quiet_stays m time Went b a none may h = let some : 0 < b.made = may.some in absurd (omega (arith, none, some))
+  quiet_stays m time Held b a none may h = let some : 0 < b.made = may.0.some in absurd (omega (arith, none, some))
+  quiet_stays m time (Hushed quiet) b a none may h = quiet_blocked (held_after m time quiet b a).state.paths quiet ∙ ap (λ (p : Paths t.C). is_blocked p) (held_paths m time quiet b a) ∙ h
+  quiet_stays m time (Died why) b a none may h = quiet_blocked (killed_after why a).state.paths Killed ∙ ap (λ (p : Paths t.C). is_blocked p) (killed_paths why a) ∙ h
 
-  packets_hold : (m : Meaning t) (time : ℕ) (ps : List Sent) (e : Ending) (a : At t) → let g : Going t = packets_after m time ps (going_from a) in
-      Ends a.state → MayAll m time (going_from a) ps → MayEnd e g.now.state g.batch → Holds a (ending_after time e g.batch g.now)
-  packets_hold m time [] e a ends may end =
-      keeps_holds a _ (is_blocked a.state.paths) refl (quiet_stays time e (going_from a).batch a refl end) (λ free unblocked. ending_keeps m free time e (going_from a).batch a)
-  packets_hold m time (p ∷ []) e a ends may end =
-      let g : Going t = packet_after m time p (going_from a) in
-      free_holds a _ may.0.begins.free (keeps_next true a g.now _ (packet_keeps m true time p (going_from a) ends may.0) (ending_keeps m true time e g.batch g.now))
-  packets_hold m time (p ∷ q ∷ ps) e a ends may end = let one = packet_made m time p (going_from a) may.0 in let alone = may.1.0.alone in absurd (omega (arith, one, alone))
+  -- the moves of a packet keep what is known of the end of a connection
+  unspent_known : (m : Meaning t) (x : Move t) (s : View t) → IsUnspent x → IsKnownMove m x s
+  unspent_known m (Begin id opens) s r = tt
+  unspent_known m Skip s r = tt
+  unspent_known m (Arm at) s r = tt
+  unspent_known m _ s r = absurd r
 
-  transmit_holds : (m : Meaning t) (time : ℕ) (choice : Choice) (a : At t) → Ends a.state → MayTransmit m time choice a → Holds a (transmit_after m time choice a)
+  packet_ends : (m : Meaning t) (time : ℕ) (p : Sent) (g : Going t) → MayFollow m time g.now.state g.batch p → Ends g.now.state → Ends (packet_after m time p g).now.state
+  unfolding spent_after MayMove
+  packet_ends m time p g may =
+      packets_told m (λ (b c : At t). Ends b.state → Ends c.state) (λ b h. h) (λ b c d g h e. h (g e)) (λ x r b h. known_keeps m x b (unspent_known m x b.state r) h)
+      (λ at_time size b. known_keeps m (Spend _) b (record { time = at_time; size = size; is = refl }) tt) (λ at_time form fs b h. ends_seal at_time form fs b h) time (p ∷ []) g (may, tt)
+
+  packets_keep : (m : Meaning t) (free : Bool) (time : ℕ) (ps : List Sent) (g : Going t) → Ends g.now.state → MayAll m time g ps → Keeps free g.now (packets_after m time ps g).now
+  packets_keep m free time [] g ends may = keeps_here free g.now
+  packets_keep m free time (p ∷ ps) g ends may =
+      let h : Going t = packet_after m time p g in
+      keeps_next free g.now h.now _ (packet_keeps m free time p g ends may.0) (packets_keep m free time ps h (packet_ends m time p g may.0 ends) may.1)
+
+  -- the first packet of a transmit begins a datagram, so that the path isn't blocked as it begins
+  first_free : (m : Meaning t) (time asked : ℕ) (p : Sent) (a : At t) → MayFollow m time a.state (going_from asked a).batch p → is_blocked a.state.paths ≡ false
+  first_free m time asked p a may =
+      let b : Batch = (going_from asked a).batch in
+      let place : MayOpen m time a.state b (number_space p.form) = subst (λ (o : Bool). MayStand m time a.state b (number_space p.form) o) (first_opens m time a.state b p may refl) may.begins.place in
+      free_unblocked m time a.state b (number_space p.form) place.free
+
+  packets_hold : (m : Meaning t) (time asked : ℕ) (ps : List Sent) (e : Ending) (a : At t) → let g : Going t = packets_after m time ps (going_from asked a) in
+      Ends a.state → MayAll m time (going_from asked a) ps → MayEnd m time e g.now.state g.batch → Holds a (ending_after m time e g.batch g.now)
+  packets_hold m time asked [] e a ends may end =
+      keeps_holds a _ (is_blocked a.state.paths) refl (quiet_stays m time e (going_from asked a).batch a refl end) (λ free unblocked. ending_keeps m free time e (going_from asked a).batch a)
+  packets_hold m time asked (p ∷ ps) e a ends may end =
+      let g : Going t = packets_after m time (p ∷ ps) (going_from asked a) in
+      free_holds a _ (first_free m time asked p a may.0) (keeps_next true a g.now _ (packets_keep m true time (p ∷ ps) (going_from asked a) ends may) (ending_keeps m true time e g.batch g.now))
+
+  transmit_holds : (m : Meaning t) (time asked : ℕ) (choice : Choice) (a : At t) → Ends a.state → MayTransmit m time asked choice a → Holds a (transmit_after m time asked choice a)
   unfolding MayTransmit transmit_after gone_after
-  transmit_holds m time choice a ends may = packets_hold m time choice.packets choice.ending a ends may.0 may.1
+  transmit_holds m time asked choice a ends may = packets_hold m time asked choice.packets choice.ending a ends may.0 may.1
 
   -- ---- inputs, steps and runs
 
@@ -400,10 +442,10 @@ module _ {t : Types} where
   unfolding IsAllowed input_after close_after paths_move
   input_holds m (input.Datagram time remote ecn bytes) choice a ends may = datagram_holds m (record { time = time; remote = remote; mark = ecn }) bytes a
   input_holds m (input.Timeout time) choice a ends may = timeout_holds m time a
-  input_holds m (input.Transmit time max) choice a ends may = transmit_holds m time choice a ends may
+  input_holds m (input.Transmit time max) choice a ends may = transmit_holds m time max choice a ends may
   input_holds m (input.Close time code reason) choice a ends may = closed_by m time _ a (is_open a.state.life.state)
   input_holds m (input.Ping time) choice a ends may = holds_plain m (Ask a.state.keys.highest) a tt refl
-  input_holds m (input.SendDatagram time body) choice a ends may = holds_plain m (Post (datagrams.Sent (datagram_limit a.state) body)) a tt refl
+  input_holds m (input.SendDatagram time body) choice a ends may = holds_plain m (Post (datagrams.Sent (datagram_limit a.state) true body)) a tt refl
   input_holds m (input.RecvDatagram time) choice a ends may = holds_plain m (Post datagrams.Taken) a tt refl
   input_holds m (input.Identifiers time given) choice a ends may = holds_plain m (Issue time given) a tt refl
   input_holds m i choice a ends may = called_input Holds holds_here holds_next (λ x b h. holds_plain m (Call x) b tt refl) i choice.read a may

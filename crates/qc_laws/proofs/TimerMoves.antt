@@ -32,12 +32,12 @@ use Rattle.qc_state.specs.Flight.{counts_in_flight, flown_packet, is_padding}
 use Rattle.qc_state.specs.Forms.{number_space}
 use Rattle.qc_state.specs.Life.{connected_reported, data_ready, drained_reported, identifiers_wanted, is_established, is_handshake, is_open, life_closed, life_drained, life_established, life_raised, lost_reported, notice_reported, notices_reported, rank_of, ready_reported, reason_given, token_learned, all_heard_reported, heard_reported, datagram_heard, is_drained}
 use Rattle.qc_state.specs.Lower.{bytes_came, flight_dropped, packet_flown, packets_settled, session_read, session_wrote, timer_fired, limits_learned, frame_handed, streams_closed, streams_stepped, event_told, events_told, datagrams_stepped, frames_sealed, ids_stepped}
-use Rattle.qc_state.specs.Moves.{Accept, Ack, AreNext, Arm, Begin, Establish, Fail, Finish, Fire, Forget, Give, Hear, IsTold, Move, PeerCloses, PeerClosesToo, Raise, Seal, Shut, Take, Tell, Write, armed_with, deeds_move, keys_move, life_move, lower_move, move_to, paths_move, setup_move, state_move, timers_move, waiting_move, Hand, told_to_streams, Insert, Switch, Retire, Issue}
-use Rattle.qc_state.specs.Paths.{is_blocked, path_accepted, path_idle, path_kept, path_spun, peer_fixed, path_named}
+use Rattle.qc_state.specs.Moves.{Accept, Ack, AreNext, Arm, Begin, Establish, Fail, Finish, Fire, Forget, Give, Hear, IsTold, Move, PeerCloses, PeerClosesToo, Raise, Seal, Shut, Take, Tell, Write, armed_with, deeds_move, keys_move, life_move, lower_move, move_to, paths_move, setup_move, state_move, timers_move, waiting_move, Hand, told_to_streams, Insert, Switch, Retire, Issue, Say, Spend}
+use Rattle.qc_state.specs.Paths.{is_blocked, path_accepted, path_kept, path_spun, peer_fixed, path_named}
 use Rattle.qc_state.specs.Recovering.{around_of, fired_by, is_validated_by_peer, loss_time, settled_by}
-use Rattle.qc_state.specs.Sending.{flown_after, is_flown, packet_size, sealed_in}
+use Rattle.qc_state.specs.Sending.{flown_after, is_flown, packet_size, sealed_in, spent_after}
 use Rattle.qc_laws.specs.TimerLaws.{FlightHolds, SpaceHolds, TimerHolds, awaits_ack, elicits_in, has_asked, has_probe_keys, must_probe, sealed_since}
-use Rattle.qc_state.specs.Timers.{clock_set, timers_accepted, timers_acking, timers_armed, timers_holding, timers_paced, timers_released, timers_sealed, timers_issued, timers_outlived}
+use Rattle.qc_state.specs.Timers.{clock_set, timers_accepted, timers_acking, timers_armed, timers_held, timers_holding, timers_paced, timers_released, timers_sealed, timers_issued, timers_outlived}
 use Rattle.qc_state.specs.Types.{Types, Meaning}
 use Rattle.qc_state.specs.View.{View, At, at}
 use Rattle.qc_state.specs.Waiting.{waiting_without}
@@ -49,6 +49,7 @@ use Rattle.qc_state.specs.Numbers.{next_number}
 use Rattle.qc_state.specs.Receiving.{is_below}
 use Rattle.qc_state.specs.Setup.{packet_drawn, parameters_known, token_expected, word_drawn}
 use Rattle.qc_state.specs.Spaces.{is_space}
+use Rattle.qc_state.proofs.Quieted.{quiet_blocked}
 use Rattle.qc_state.proofs.Probed.{begun_streams}
 use Rattle.qc_laws.proofs.CryptoPlaces.{dropped_highest, dropped_keys, used_highest}
 use Rattle.qc_laws.proofs.TimerProbes.{Before, before_probes, dropped_keyed, failed_same, forget_before, form_keyed, given_below, given_confirmed, given_more, given_probe, probe_parts, unknown_confirmed, used_same}
@@ -293,7 +294,7 @@ module _ {t : Types} where
   IsPlain m _ s = Unit {0}
 
   plain_timer : (m : Meaning t) (x : Move t) (s : View t) → IsPlain m x s → is_open (life_move x s).state ≡ true → (timers_move x s).loss_detection ≡ s.timers.loss_detection
-  unfolding timers_move life_move life_closed life_drained life_raised clock_set timers_paced timers_released timers_accepted timers_outlived
+  unfolding timers_move life_move life_closed life_drained life_raised clock_set timers_paced timers_held timers_released timers_accepted timers_outlived
   plain_timer m (Seal time form n size fs) s h o = absurd h
   plain_timer m (Arm at) s h o = absurd h
   plain_timer m (Accept time id n e g v) s h o = held_loss _ _ time
@@ -467,22 +468,23 @@ module _ {t : Types} where
 
   -- they leave a path free that is free, but for bytes that are sent or come
   abbrev pub IsFree : Move t → Type 0
-  IsFree (Finish bytes) = ⊥
+  IsFree (Finish bytes control) = ⊥
   IsFree (Hear bytes) = ⊥
   IsFree _ = Unit {0}
 
   pub plain_free : (x : Move t) (s : View t) → IsFree x → is_blocked s.paths ≡ false → is_blocked (paths_move x s) ≡ false
-  unfolding paths_move peer_fixed path_idle path_kept path_named is_blocked
-  plain_free (Finish bytes) s k h = absurd k
+  unfolding paths_move peer_fixed path_kept path_named is_blocked
+  plain_free (Finish bytes control) s k h = absurd k
   plain_free (Hear bytes) s k h = absurd k
   plain_free (Accept time id n e g v) s k h = spun_free (path_accepted s.paths id v) s.setup.fixed.side _ g.spin (accepted_free s.paths id v h)
+  plain_free (Say quiet) s k h = quiet_blocked s.paths quiet ∙ h
   plain_free _ s k h = h
 
   -- ---- a packet that is sealed
 
   -- what is known of the view behind a packet of this form that is sealed
   record IsSealedFrom (s s1 : View t) (owed : Bool) (time size n : ℕ) (f : Form) (fs : List FrameValue) : Type 0 where
-    pub life : s1.life ≡ s.life
+    pub life : s1.life.state ≡ s.life.state
     pub recovery : s1.lower.recovery ≡ (if owed then s.lower.recovery else sent_after (number_space f) n (flown_packet time size fs) s.lower.recovery)
     pub timer : s1.timers.loss_detection ≡ s.timers.loss_detection
     pub keys : s1.keys ≡ key_used s.keys f n
@@ -491,7 +493,7 @@ module _ {t : Types} where
   -- while a close is owed
   owed_holds : (free later : Bool) (time size n : ℕ) (f : Form) (fs : List FrameValue) (s s1 : View t) → is_open s.life.state ≡ false → IsSealedFrom s s1 true time size n f fs → Spaces s → HoldsIf free later s1
   owed_holds free later time size n f fs s s1 shut is spaces = record {
-    stands = λ x o w. let opened : is_open s.life.state ≡ true = ap (λ (l : Life). is_open l.state) (sym is.life) ∙ o in absurd cc;
+    stands = λ x o w. let opened : is_open s.life.state ≡ true = ap is_open (sym is.life) ∙ o in absurd cc;
     spaces = λ id. record {
       flight = subst (λ (r : Recovery). FlightHolds (recovery.space_of id r)) (sym is.recovery) (spaces id).flight;
       keyed = λ e. ap (λ (k : KeyGroup t.H t.P). has_keys k id) is.keys ∙ used_same s.keys f n id ∙ (spaces id).keyed (ap (λ (r : Recovery). is_some (recovery.space_of id r).eliciting_at) (sym is.recovery) ∙ e);
@@ -546,13 +548,14 @@ module _ {t : Types} where
         keys = λ e a u. sym (λ i. if recovery.is_handshake (highest i) then same Handshake i else same Initial i) ∙ e;
       }
 
-  seal_by : (free since owed counts : Bool) (time size n : ℕ) (f : Form) (fs : List FrameValue) (s s1 : View t) (ds : List Did) → (owed ≡ true → is_open s.life.state ≡ false) → counts_in_flight fs ≡ counts → has_keys_for s.keys f ≡ true →
-      IsSealedFrom s s1 owed time size n f fs → HoldsIf free since s → HoldsIf free (since || counts) (flown_after time (not owed && counts) (at s1 ds)).state
-  unfolding armed_with move_to awaits_ack
-  seal_by free since true counts time size n f fs s s1 ds shut is keyed sealed h = owed_holds free (since || counts) time size n f fs s s1 (shut refl) sealed h.spaces
-  seal_by free since false true time size n f fs s s1 ds shut is keyed sealed h = arm_holds free (since || true) false time s1 (λ x. refl) (flown_spaces s s1 time size n f fs keyed sealed h.spaces)
-  seal_by free since false false time size n f fs s s1 ds shut is keyed sealed h = record {
-    stands = λ x o w. ap (λ (v : Option ℕ). is_some v) sealed.timer ∙ h.stands x (ap (λ (l : Life). is_open l.state) (sym sealed.life) ∙ o)
+  seal_by : (m : Meaning t) (free since owed counts : Bool) (time size n : ℕ) (f : Form) (fs : List FrameValue) (s s1 : View t) (ds : List Did) → (owed ≡ true → is_open s.life.state ≡ false) → counts_in_flight fs ≡ counts → has_keys_for s.keys f ≡ true →
+      IsSealedFrom s s1 owed time size n f fs → HoldsIf free since s → HoldsIf free (since || counts) (flown_after m time size (not owed && counts) (at s1 ds)).state
+  unfolding armed_with spent_after move_to awaits_ack
+  seal_by m free since true counts time size n f fs s s1 ds shut is keyed sealed h = owed_holds free (since || counts) time size n f fs s s1 (shut refl) sealed h.spaces
+  seal_by m free since false true time size n f fs s s1 ds shut is keyed sealed h =
+      arm_holds free (since || true) false time (state_move (Spend _) s1) (λ x. refl) (plain_spaces m (Spend _) s1 tt (flown_spaces s s1 time size n f fs keyed sealed h.spaces))
+  seal_by m free since false false time size n f fs s s1 ds shut is keyed sealed h = record {
+    stands = λ x o w. ap (λ (v : Option ℕ). is_some v) sealed.timer ∙ h.stands x (ap is_open (sym sealed.life) ∙ o)
         (or_more (awaits_ack since s) (must_probe s) (awaits_ack (since || false) s1) (must_probe s1) less_awaits (before_probes s s1 (flown_before s s1 time size n f fs sealed (silent_fs fs is))) w);
     spaces = flown_spaces s s1 time size n f fs keyed sealed h.spaces;
   }
@@ -565,16 +568,16 @@ module _ {t : Types} where
       less_awaits w =
           or_more (elicits_in s Initial) _ (elicits_in s1 Initial) _ (flown_elicits s s1 time size n f fs sealed (silent_fs fs is) Initial)
           (or_more (elicits_in s Handshake) _ (elicits_in s1 Handshake) _ (flown_elicits s s1 time size n f fs sealed (silent_fs fs is) Handshake)
-          (and_more since (is_established s.life.state) (since || false) (is_established s1.life.state) (λ e. ap (λ (b : Bool). b && is_established s.life.state) (sym (or_none since)) ∙ ap (λ (l : Life). (since || false) && is_established l.state) (sym sealed.life) ∙ e)
+          (and_more since (is_established s.life.state) (since || false) (is_established s1.life.state) (λ e. ap (λ (b : Bool). b && is_established s.life.state) (sym (or_none since)) ∙ ap (λ (x : State). (since || false) && is_established x) (sym sealed.life) ∙ e)
           (elicits_in s «Data») (elicits_in s1 «Data») (flown_elicits s s1 time size n f fs sealed (silent_fs fs is) «Data»))) w
 
   sealed_from : (time n size : ℕ) (f : Form) (fs : List FrameValue) (s : View t) → IsSealedFrom s (state_move (Seal time f n size fs) (state_move (Take (number_space f) fs) s)) s.waiting.close_owed time size n f fs
   unfolding state_move life_move lower_move streams_stepped datagrams_stepped timers_move waiting_move waiting_without keys_move setup_move packet_drawn frames_sealed ids_stepped
   sealed_from time n size f fs s = record { life = refl; recovery = flown_recovery s.waiting.close_owed (frames_sealed fs s.lower) (number_space f) n (flown_packet time size fs); timer = sealed_loss s.timers _ _ time (list_any elicits fs) (list_any is_ack fs); keys = refl; side = refl }
 
-  pub sealed_holds : (free since : Bool) (time : ℕ) (f : Form) (fs : List FrameValue) (a : At t) → (a.state.waiting.close_owed ≡ true → is_open a.state.life.state ≡ false) → has_keys_for a.state.keys f ≡ true → HoldsIf free since a.state →
-      HoldsIf free (since || counts_in_flight fs) (sealed_in time f fs a).state
+  pub sealed_holds : (m : Meaning t) (free since : Bool) (time : ℕ) (f : Form) (fs : List FrameValue) (a : At t) → (a.state.waiting.close_owed ≡ true → is_open a.state.life.state ≡ false) → has_keys_for a.state.keys f ≡ true → HoldsIf free since a.state →
+      HoldsIf free (since || counts_in_flight fs) (sealed_in m time f fs a).state
   unfolding sealed_in is_flown move_to
-  sealed_holds free since time f fs a shut keyed h =
-      seal_by free since a.state.waiting.close_owed (counts_in_flight fs) time (packet_size a.state f fs) (next_number a.state.numbers (number_space f)) f fs a.state _ _ shut refl keyed
+  sealed_holds m free since time f fs a shut keyed h =
+      seal_by m free since a.state.waiting.close_owed (counts_in_flight fs) time (packet_size a.state f fs) (next_number a.state.numbers (number_space f)) f fs a.state _ _ shut refl keyed
       (sealed_from time (next_number a.state.numbers (number_space f)) (packet_size a.state f fs) f fs a.state) h

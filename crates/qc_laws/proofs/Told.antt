@@ -42,24 +42,24 @@ module _ {t : Types} where
       told_next id a b _ (told_move id (Take (number_space form) fs) a may.takes) (told_move id (Seal time form (next_number a.state.numbers (number_space form)) (packet_size a.state form fs) fs) b (refl, may.closes, may.alive, may.keyed))
 
   -- a transmit
-  pub told_transmit : (id : SpaceId) (m : Meaning t) (time : ℕ) (choice : Choice) (a : At t) → MayTransmit m time choice a → Told id a (transmit_after m time choice a)
-  told_transmit id m time choice a may =
+  pub told_transmit : (id : SpaceId) (m : Meaning t) (time asked : ℕ) (choice : Choice) (a : At t) → MayTransmit m time asked choice a → Told id a (transmit_after m time asked choice a)
+  told_transmit id m time asked choice a may =
       holds_transmit (Told id) (told_here id) (told_next id) (λ x sends b h. told_move id x b h)
-      (λ at_time space fs b h. told_packet id at_time space fs b h) m time choice a may
+      (λ at_time space fs b h. told_packet id at_time space fs b h) m time asked choice a may
 
   closed_by : (id : SpaceId) (time : ℕ) (close : Close) (a : At t) (b : Bool) → is_open a.state.life.state ≡ b → Told id a (if b then move_to (Shut time close) a else a)
   unfolding MayMove
   closed_by id time close a true h = told_move id (Shut time close) a (open_rank a.state.life.state h)
   closed_by id time close a false h = told_here id a
 
-  told_input : (id : SpaceId) (m : Meaning t) (i : Input) (choice : Choice) (a : At t) → IsAllowed m i choice a → Told id a (input_after m i choice a)
+  pub told_input : (id : SpaceId) (m : Meaning t) (i : Input) (choice : Choice) (a : At t) → IsAllowed m i choice a → Told id a (input_after m i choice a)
   unfolding IsAllowed input_after close_after MayMove
   told_input id m (input.Datagram time remote ecn bytes) choice a h = told_datagram id m (record { time = time; remote = remote; mark = ecn }) bytes a
   told_input id m (input.Timeout time) choice a h = holds_timeout (Told id) (told_here id) (told_next id) (λ x timed b may. told_move id x b may) m time a
-  told_input id m (input.Transmit time max) choice a h = told_transmit id m time choice a h
+  told_input id m (input.Transmit time max) choice a h = told_transmit id m time max choice a h
   told_input id m (input.Close time code reason) choice a h = closed_by id time _ a _ refl
   told_input id m (input.Ping time) choice a h = told_move id (Ask a.state.keys.highest) a tt
-  told_input id m (input.SendDatagram time body) choice a h = told_move id (Post (datagrams.Sent (datagram_limit a.state) body)) a refl
+  told_input id m (input.SendDatagram time body) choice a h = told_move id (Post (datagrams.Sent (datagram_limit a.state) true body)) a refl
   told_input id m (input.RecvDatagram time) choice a h = told_move id (Post datagrams.Taken) a refl
   told_input id m (input.Identifiers time given) choice a h = told_move id (Issue time given) a h
   told_input id m i choice a h = called_input (Told id) (told_here id) (told_next id) (λ x b may. told_move id (Call x) b may) i choice.read a h

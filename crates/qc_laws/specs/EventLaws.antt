@@ -6,7 +6,7 @@ use Rattle.qc_state.specs.declared.deeds.Did.TheVariants.{Piece, Gave, Sealed, R
 use Rattle.qc_state.specs.declared.events.EndpointEvent.{EndpointEvent}
 use Rattle.qc_state.specs.declared.events.EndpointEvent.TheVariants.{ResetToken, NeedIdentifiers, RetireConnectionId, Drained}
 use Rattle.qc_state.specs.declared.events.Event.{Event}
-use Rattle.qc_state.specs.declared.events.Event.TheVariants.{HandshakeDataReady, Connected, Stream, ConnectionLost, DatagramReceived}
+use Rattle.qc_state.specs.declared.events.Event.TheVariants.{HandshakeDataReady, Connected, Stream, ConnectionLost, DatagramReceived, DatagramsUnblocked}
 use Rattle.qc_state.specs.declared.life.ConnectionError.{ConnectionError}
 use Rattle.qc_state.specs.declared.life.Life.{Life}
 use Rattle.qc_state.specs.declared.trace.Step.{Step}
@@ -20,6 +20,7 @@ losses_in (HandshakeDataReady ∷ es) = losses_in es
 losses_in (Connected ∷ es) = losses_in es
 losses_in (Stream event ∷ es) = losses_in es
 losses_in (DatagramReceived ∷ es) = losses_in es
+losses_in (DatagramsUnblocked ∷ es) = losses_in es
 losses_in (ConnectionLost why ∷ es) = why ∷ losses_in es
 
 -- how many events tell that the handshake is over
@@ -29,6 +30,7 @@ connections_in (HandshakeDataReady ∷ es) = connections_in es
 connections_in (Connected ∷ es) = connections_in es + 1
 connections_in (Stream event ∷ es) = connections_in es
 connections_in (DatagramReceived ∷ es) = connections_in es
+connections_in (DatagramsUnblocked ∷ es) = connections_in es
 connections_in (ConnectionLost why ∷ es) = connections_in es
 
 -- how many events tell the endpoint that the connection has drained
@@ -77,13 +79,14 @@ untold_of v = record { lost = v.lost; connected = v.connected; drained = v.drain
 abbrev pub all_told : Untold
 all_told = record { lost = None; connected = false; drained = false }
 
--- whether an event tells that a datagram came
+-- whether an event tells of datagrams: that one came, or that there is room again
 abbrev pub is_heard : Event → Bool
 is_heard DatagramReceived = true
+is_heard DatagramsUnblocked = true
 is_heard _ = false
 
 -- only what came to pass waits to be told: a loss only where a reason was given, that the handshake is over only behind the rise to
--- Established, and the end only in Drained, and not among what is told before it; and what waits of datagrams is that they came
+-- Established, and the end only in Drained, and not among what is told before it; and what waits of datagrams tells of them
 pub record OnlyDoneWaits (v : Life) : Type 0 where
   pub lost : is_none v.reason ≡ true → v.lost ≡ None
   pub connected : rank_of v.state < 1 → v.connected ≡ false

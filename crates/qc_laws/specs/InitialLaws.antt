@@ -6,6 +6,7 @@ use Rattle.qc_base.specs.declared.side.SpaceId.TheVariants.{Initial, Handshake}
 use Rattle.qc_state.specs.declared.deeds.Did.{Did}
 use Rattle.qc_state.specs.declared.deeds.Did.TheVariants.{Piece, Sealed}
 use Rattle.qc_state.specs.Keys.{has_keys}
+use Rattle.qc_state.specs.Life.{is_drained}
 use Rattle.qc_state.specs.Moves.{accepts}
 use Rattle.qc_state.specs.Types.{Types}
 use Rattle.qc_state.specs.View.{View}
@@ -32,9 +33,13 @@ NoneInitial side left [] = Unit {0}
 NoneInitial side left (d ∷ ds) = (seals_initial d ≡ true → left ≡ false) × NoneInitial side (left || leaves_with side d) ds
 
 module _ {t : Types} where
-  -- From one view to another, between which these deeds were done: no Initial packet is sealed where the space had no keys, nor behind a
-  -- Handshake packet that a client sealed, or that a server accepted; and behind one the space has no keys any more.
+  -- the space is left: it has no keys, or the connection has ended
+  abbrev pub is_left : View t → Bool
+  is_left s = not (has_keys s.keys Initial) || is_drained s.life.state
+
+  -- From one view to another, between which these deeds were done: no Initial packet is sealed where the space had been left, nor behind a
+  -- Handshake packet that a client sealed, or that a server accepted; and behind one the space is left.
   pub record LeavesInitial (ds : List Did) (s s' : View t) : Type 0 where
-    pub none : NoneInitial s.setup.fixed.side (not (has_keys s.keys Initial)) ds
-    pub gone : has_left s.setup.fixed.side (not (has_keys s.keys Initial)) ds ≡ true → has_keys s'.keys Initial ≡ false
+    pub none : NoneInitial s.setup.fixed.side (is_left s) ds
+    pub gone : has_left s.setup.fixed.side (is_left s) ds ≡ true → is_left s' ≡ true
     pub side : s'.setup.fixed.side ≡ s.setup.fixed.side

@@ -16,4 +16,5 @@ pub mod RecoveryLaws
 pub mod StreamLaws
 pub mod StreamsLaws
 pub mod TimerLaws
+pub mod WindowLaws
 pub mod WriteLaws

@@ -1,14 +1,14 @@
 -- Laws over whole runs, said of the datagrams of the application (RFC 9221, sections 3 and 5), in words of the trace.
-use Rattle.std.specs.Prelude.{◌≡◌, ◌⊎◌, ℕ, ◌+◌, Bool, true, false, List, [], ◌∷◌, ◌++◌, Option}
+use Rattle.std.specs.Prelude.{◌≡◌, ◌⊎◌, ℕ, true, List, [], ◌∷◌, ◌++◌, Option}
 use Rattle.qc_datagrams.specs.Datagrams.{new_datagrams, send_refusal}
 use Rattle.qc_datagrams.specs.Given.{AreInOrder}
-use Rattle.qc_datagrams.specs.Steps.{Step, Came, Sent, Taken, after, after_step}
+use Rattle.qc_datagrams.specs.Steps.{Step, Sent, Taken, after}
 use Rattle.qc_datagrams.specs.declared.datagrams.Datagrams.{Datagrams}
 use Rattle.qc_frame.specs.Frame.{FrameValue}
 use Rattle.qc_frame.specs.FrameSpelling.{spelling}
 use Rattle.qc_frame.specs.declared.frames.FrameOf.TheVariants as frames
 use Rattle.qc_state.specs.declared.events.Event.{Event}
-use Rattle.qc_state.specs.declared.events.Event.TheVariants.{DatagramReceived}
+use Rattle.qc_state.specs.declared.events.Event.TheVariants.{DatagramReceived, DatagramsUnblocked}
 use Rattle.qc_state.specs.declared.input.Input.{Input}
 use Rattle.qc_state.specs.declared.input.Input.TheVariants as input
 use Rattle.qc_state.specs.declared.trace.Answer.{Answer}
@@ -17,30 +17,20 @@ use Rattle.qc_state.specs.declared.trace.Step.{Step as TraceStep}
 use Rattle.qc_state.specs.declared.deeds.Did.{Did}
 use Rattle.qc_state.specs.declared.deeds.Did.TheVariants as did
 use Rattle.qc_state.specs.declared.deeds.Layer.TheVariants as layer
-use Rattle.qc_state.specs.Datagrams.{AllOldest, datagram_steps, sealed_datagrams, sent_answer, taken_answer, tells_datagram}
+use Rattle.qc_state.specs.Datagrams.{AllOldest, datagram_steps, sealed_datagrams, sent_answer, taken_answer, told_by_all}
 use Rattle.qc_state.specs.Types.{Types}
 use Rattle.qc_state.specs.View.{View}
-use Rattle.qc_laws.specs.EventLaws.{once}
 use Rattle.qc_laws.specs.ReadLaws.{given_in}
 use Rattle.qc_laws.specs.StreamsLaws.{frames_sealed, with_steps}
 
 -- ---- the fold of their steps
 
--- how many events tell that a datagram came
-abbrev pub heard_in : List Event → ℕ
-heard_in [] = 0
-heard_in (DatagramReceived ∷ es) = heard_in es + 1
+-- the events that tell of datagrams, in order: that one came, and that there is room again
+abbrev pub heard_in : List Event → List Event
+heard_in [] = []
+heard_in (DatagramReceived ∷ es) = DatagramReceived ∷ heard_in es
+heard_in (DatagramsUnblocked ∷ es) = DatagramsUnblocked ∷ heard_in es
 heard_in (_ ∷ es) = heard_in es
-
--- how many of steps are to be told: those with which one comes while none waits
-abbrev pub is_told : Step → Datagrams → Bool
-is_told (Came body) d = tells_datagram (frames.Datagram body) d
-is_told _ d = false
-
--- how many of them are, each as its turn comes
-abbrev pub count_told : List Step → Datagrams → ℕ
-count_told [] d = 0
-count_told (x ∷ xs) d = count_told xs (after_step x d) + once (is_told x d)
 
 -- Deeds make these steps of them, one after the other, each as its turn comes. What is given to streams and datagrams is a frame as it is
 -- spelled: a DATAGRAM frame makes that it comes, which they may refuse, and any other none. A packet that is sealed makes one step for each
@@ -56,16 +46,17 @@ AreOfDeeds (_ ∷ ds) made d = AreOfDeeds ds made d
 -- An input makes these steps of them: one that sends a datagram, or takes one, is that, and answers as they are then, and its deeds make
 -- none; `most` is how long one may be, where the peer takes any. Any other makes those of its deeds.
 abbrev pub MakesPosts : Input → TraceStep → List Step → Datagrams → Type 0
-MakesPosts (input.SendDatagram time body) x made d = (most : Option ℕ) × (made ≡ Sent most body ∷ []) × (x.answer ≡ sent_answer (send_refusal most true body d)) × AreOfDeeds x.did [] d
+MakesPosts (input.SendDatagram time body) x made d = (most : Option ℕ) × (made ≡ Sent most true body ∷ []) × (x.answer ≡ sent_answer (send_refusal most true body d)) × AreOfDeeds x.did [] d
 MakesPosts (input.RecvDatagram time) x made d = (made ≡ Taken ∷ []) × (x.answer ≡ taken_answer d.incoming) × AreOfDeeds x.did [] d
 MakesPosts _ x made d = AreOfDeeds x.did made d
 
--- Steps are those of the inputs, one after the other, each as its turn comes. As many events tell that a datagram came as there are to be
--- told, and as waited before.
-abbrev pub ArePosts : (waited : ℕ) → List (Input × TraceStep) → List Step → Datagrams → Type 0
+-- Steps are those of the inputs, one after the other, each as its turn comes. What the events of an input tell of datagrams is what waited
+-- before, and then what its steps tell: that one came where none was queued, and that there is room again where one is sealed and another had
+-- been refused before because of a full buffer.
+abbrev pub ArePosts : (waited : List Event) → List (Input × TraceStep) → List Step → Datagrams → Type 0
 ArePosts waited [] xs d = xs ≡ []
 ArePosts waited (call ∷ calls) xs d =
-    (made : List Step) × (rest : List Step) × (xs ≡ made ++ rest) × MakesPosts call.0 call.1 made d × (heard_in call.1.events ≡ waited + count_told made d) × ArePosts 0 calls rest (after made d)
+    (made : List Step) × (rest : List Step) × (xs ≡ made ++ rest) × MakesPosts call.0 call.1 made d × (heard_in call.1.events ≡ waited ++ told_by_all made d) × ArePosts [] calls rest (after made d)
 
 module _ {t : Types} where
   -- From one view to another, over inputs whose trace is this, the datagrams made these steps, and are what they leave: those of the frames

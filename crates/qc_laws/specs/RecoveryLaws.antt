@@ -7,6 +7,7 @@ use Rattle.qc_flight.specs.Packets.{Entry}
 use Rattle.qc_flight.specs.declared.sent.SentPacket.{SentPacket}
 use Rattle.qc_frame.specs.Frame.{FrameValue}
 use Rattle.qc_frame.specs.FrameSpelling.{elicits}
+use Rattle.qc_path.specs.Pacing.{Bucket, packet_paced}
 use Rattle.qc_path.specs.declared.controller.Controller.{Ghosts as Control}
 use Rattle.qc_recovery.specs.Calls.{dropped_after}
 use Rattle.qc_recovery.specs.Runs.{in_space}
@@ -20,7 +21,8 @@ use Rattle.qc_state.specs.declared.deeds.Did.{Did}
 use Rattle.qc_state.specs.declared.deeds.Did.TheVariants as did
 use Rattle.qc_state.specs.Flight.{counts_in_flight, flown_packet, kept_frames}
 use Rattle.qc_state.specs.Forms.{number_space}
-use Rattle.qc_state.specs.Moves.{Move, Ack, Fire, Forget, Seal, is_close}
+use Rattle.qc_state.specs.Moves.{Move, Ack, Finish, Fire, Forget, Seal, Spend, is_close}
+use Rattle.qc_state.specs.Sending.{path_rate}
 use Rattle.qc_state.specs.Types.{Types, Meaning}
 use Rattle.qc_state.specs.View.{View}
 
@@ -31,13 +33,15 @@ pub record Kept (C : Type 0) : Type 0 where
   pub recovery : Recovery
   pub path : PathData C
 
--- a step of recovery: a packet is in flight from then on, an ACK came, the loss timer fired, or the keys of a space were dropped; of an
--- ACK and of the timer what they leave
+-- a step of recovery: a packet is in flight from then on, an ACK came, the loss timer fired, the keys of a space were dropped, the pacer
+-- spent tokens, or the controller was told what was sent; of an ACK and of the timer, of the pacer and of the controller what they leave
 pub data RecoveryStep (C : Type 0) : Type 0 where
   Sent : (space : SpaceId) → (number : ℕ) → (packet : SentPacket) → RecoveryStep C
   Settled : (space : SpaceId) → (after : After C) → RecoveryStep C
   Fired : (after : FiredAfter C) → RecoveryStep C
   Dropped : (space : SpaceId) → RecoveryStep C
+  Spent : (tokens : Bucket) → RecoveryStep C
+  Told : (control : C) → RecoveryStep C
 
 module _ {C : Type 0} where
   -- what a step leaves
@@ -46,6 +50,8 @@ module _ {C : Type 0} where
   step_after (Settled space after) k = record { recovery = after.recovery; path = after.path }
   step_after (Fired after) k = record { recovery = after.recovery; path = after.path }
   step_after (Dropped space) k = record { recovery = dropped_after space k.recovery; path = path_dropped space k.path }
+  step_after (Spent tokens) k = record k { path = record k.path { pacing = tokens } }
+  step_after (Told control) k = record k { path = record k.path { congestion = control } }
 
   -- what steps leave, one after the other
   abbrev pub steps_after : List (RecoveryStep C) → Kept C → Kept C
@@ -68,12 +74,27 @@ module _ {C : Type 0} where
     pub around : Around
     pub is : after ≡ timeout_after m now around k.recovery k.path
 
+  -- the pacer is left with what a packet of some size leaves at the path's rate (RFC 9002, section 7.7)
+  pub record IsSpent (m : Control C) (tokens : Bucket) (k : Kept C) : Type 0 where
+    pub now : ℕ
+    pub size : ℕ
+    pub is : tokens ≡ packet_paced now (path_rate m k.path) size k.path.pacing
+
+  -- the controller is left as it is once it is told that so many bytes were sent, the last packet with this number
+  pub record IsToldSent (m : Control C) (control : C) (k : Kept C) : Type 0 where
+    pub now : ℕ
+    pub bytes : ℕ
+    pub last : ℕ
+    pub is : control ≡ m.after_sent k.path.congestion now bytes last
+
   -- a step may be made
   abbrev pub MayStep : Control C → RecoveryStep C → Kept C → Type 0
   MayStep m (Sent space number packet) k = Unit {0}
   MayStep m (Settled space after) k = IsSettling m space after k
   MayStep m (Fired after) k = IsFiring m after k
   MayStep m (Dropped space) k = Unit {0}
+  MayStep m (Spent tokens) k = IsSpent m tokens k
+  MayStep m (Told control) k = IsToldSent m control k
 
   -- each step may be made as its turn comes
   abbrev pub AllMay : Control C → List (RecoveryStep C) → Kept C → Type 0
@@ -87,6 +108,8 @@ module _ {C : Type 0} where
   sent_in id (Settled space after ∷ xs) = sent_in id xs
   sent_in id (Fired after ∷ xs) = sent_in id xs
   sent_in id (Dropped space ∷ xs) = sent_in id xs
+  sent_in id (Spent tokens ∷ xs) = sent_in id xs
+  sent_in id (Told control ∷ xs) = sent_in id xs
 
 module _ {C : Type 0} where
   -- the packets of a space that steps acknowledged, in order
@@ -96,6 +119,8 @@ module _ {C : Type 0} where
   acked_in id (Sent space number packet ∷ xs) = acked_in id xs
   acked_in id (Fired after ∷ xs) = acked_in id xs
   acked_in id (Dropped space ∷ xs) = acked_in id xs
+  acked_in id (Spent tokens ∷ xs) = acked_in id xs
+  acked_in id (Told control ∷ xs) = acked_in id xs
 
 -- ---- which steps a move is
 
@@ -110,6 +135,8 @@ module _ {t : Types} where
   steps_of (Forget id) s = Dropped id ∷ []
   steps_of (Ack id n after) s = Settled id after ∷ []
   steps_of (Fire after) s = Fired after ∷ []
+  steps_of (Spend tokens) s = Spent tokens ∷ []
+  steps_of (Finish bytes control) s = Told control ∷ []
   steps_of _ s = []
 
 -- ---- what is sealed is in flight

@@ -34,6 +34,7 @@ ghost use Rattle.qc_state.specs.Setup.{is_first_awaited};
 ghost use Rattle.qc_laws.specs.StreamLaws.{GivesStream};
 ghost use Rattle.qc_laws.specs.StreamsLaws.{FoldsStreams};
 ghost use Rattle.qc_laws.specs.TimerLaws.{KeepsTimer};
+ghost use Rattle.qc_laws.specs.WindowLaws.{EachKeepsWindow};
 ghost use Rattle.qc_laws.specs.WriteLaws.{SealsWritten};
 ghost use Rattle.qc_state.specs.View.{View, At, at};
 ghost use Rattle.qc_state.specs.declared.coming.Coming.{Coming};
@@ -115,14 +116,15 @@ pub fn ends_hold<U: Suite>()
 {}
 
 /// A law, which runs no code. Over a run no Initial packet is sealed behind a Handshake packet that a client sealed, or that a server
-/// accepted, nor where the space had no keys: with such a packet an end leaves the Initial space (RFC 9001, 4.9.1), whose keys it drops.
+/// accepted, nor where the space had no keys, or the connection had ended: with such a packet an end leaves the Initial space (RFC 9001,
+/// 4.9.1), whose keys it drops, unless the connection ends before it does.
 pub fn initial_is_left<U: Suite>()
     ensures { (s last : View ⟦<U as Means>⟧.types) (k : ℕ) (is : List Input) (xs : List Step) → Run ⟦<U as Means>⟧.meaning k s is xs last → LeavesInitial (deeds_of xs) s last }
 {}
 
 /// A law, which runs no code. Over a run what loss recovery keeps, of the packets and of the path, is what its own steps leave, one after
 /// the other: each is a packet that was sealed, an ACK that came, the loss timer that fired, or a space whose keys were dropped, and what
-/// recovery makes of it. The packets that are put in flight are those that were sealed, but for closes. So each packet that was in flight or
+/// recovery makes of it; or what the pacer spends of a packet, or that the controller is told what was sent. The packets that are put in flight are those that were sealed, but for closes. So each packet that was in flight or
 /// was sealed is acknowledged, lost, dropped with its space or in flight, and that once (RFC 9002).
 pub fn recovery_is_folded<U: Suite>()
     ensures folded { (s last : View ⟦<U as Means>⟧.types) (k : ℕ) (is : List Input) (xs : List Step) → Run ⟦<U as Means>⟧.meaning k s is xs last → Ends s → Recovers ⟦<U as Means>⟧.meaning (deeds_of xs) s last }
@@ -196,6 +198,13 @@ pub fn bytes_are_kept<U: Suite>()
 /// its address; unless the path is blocked (RFC 9002, 6.2.1 and 6.2.2.1; RFC 9000, 8.1).
 pub fn loss_timer_stands<U: Suite>()
     ensures { (s last : View ⟦<U as Means>⟧.types) (k : ℕ) (is : List Input) (xs : List Step) → Run ⟦<U as Means>⟧.meaning k s is xs last → Ends s → KeepsTimer (deeds_of xs) s last }
+{}
+
+/// A law, which runs no code. Over a run the congestion window is kept: where more bytes are in flight behind an input than before it,
+/// they are fewer than the window as it began, unless a packet was sealed in a space where no frame waited that elicits an
+/// acknowledgement, or where a probe was due (RFC 9002, 7 and 7.5).
+pub fn window_is_kept<U: Suite>()
+    ensures { (s last : View ⟦<U as Means>⟧.types) (k : ℕ) (is : List Input) (xs : List Step) → Run ⟦<U as Means>⟧.meaning k s is xs last → EachKeepsWindow ⟦<U as Means>⟧.meaning k s is xs last }
 {}
 
 /// A law, which runs no code. Over a run an ACK of 1-RTT packets is held back for 25 ms at most: its timer is set with the packet that asks

@@ -10,5 +10,5 @@ pub use laws::{
     known_ids_are_used, loss_timer_stands, marks_are_told, numbers_count_once, packets_tell,
     paths_hold, posts_are_folded, reads_are_what_came, recovery_is_folded, runs_join,
     sealed_datagrams_were_sent, seals_what_was_written, session_is_given_its_stream, steps_tell,
-    streams_are_folded, streams_stay_within, taken_datagrams_came,
+    streams_are_folded, streams_stay_within, taken_datagrams_came, window_is_kept,
 };

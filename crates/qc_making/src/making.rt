@@ -113,12 +113,13 @@ fn fixed<R: Rng>(given: Given, transport: &TransportConfig, random: &mut R) -> F
         grease_quic_bit: given.grease_quic_bit,
         spins,
         key_phase_size,
+        segmentation: transport.get_enable_segmentation_offload(),
     }
 }
 
 /// A space in which nothing waits but these CRYPTO bytes.
 fn space_with(crypto: CryptoQueue) -> SpaceWaiting
-    ensures { result ≡ record { done = false; ping = false; crypto = crypto; acks = record { ranges = []; marks = no_marks }; marks = None; probes = 0; told = false } }
+    ensures { result ≡ record { done = false; ping = false; crypto = crypto; acks = record { ranges = []; marks = no_marks }; marks = None; probes = 0 } }
 {
     SpaceWaiting {
         done: false,
@@ -127,7 +128,6 @@ fn space_with(crypto: CryptoQueue) -> SpaceWaiting
         acks: PendingAcks::new(),
         marks: None,
         probes: 0,
-        told: false,
     }
 }
 

@@ -1,6 +1,6 @@
--- A packet that fills a datagram.
-use Rattle.std.specs.Prelude.{Bool, true, false, Option, Some, None, IsSome, max, min, replicate, if◌then◌else◌}
-use Rattle.std.proofs.Common.{◌≡◌, ℕ, ◌+◌, ◌-◌, ◌<◌, ◌≤◌, ◌^◌, List, [], ◌++◌, length, refl, sym, ap, subst, ◌∙◌, arith, length-append}
+-- A packet that is sealed in one call: how far it is filled up, and its bytes.
+use Rattle.std.specs.Prelude.{Bool, false, Option, Some, None, IsSome, max, replicate}
+use Rattle.std.proofs.Common.{◌≡◌, ℕ, ◌+◌, ◌-◌, ◌<◌, ◌≤◌, ◌^◌, List, ◌++◌, length, refl, sym, ap, subst, ◌∙◌, append_assoc, arith, length-append}
 use Rattle.std.proofs.lemmas.Grind.{flat_map-append}
 use Rattle.qc_base.specs.Time.{plus}
 use Rattle.qc_base.specs.PacketNumber.{number_bytes}
@@ -15,8 +15,9 @@ use Rattle.qc_header.specs.declared.header.Header.{Header}
 use Rattle.qc_header.specs.declared.header.Header.TheVariants.{Initial, Long, Retry, Short, VersionNegotiate}
 use Rattle.qc_header.specs.HeaderSpelling.{header_spelling, header_number, initial_spelling, short_spelling, long_start}
 use Rattle.qc_packet.specs.declared.builder.PacketBuilder.{PacketBuilder}
-use Rattle.qc_packet.specs.Building.{header_len, pn_len, is_short, dst_cid_of, min_size_of, max_size_of, builder_for, padded_size, IsSound, IsReady, IsOf}
+use Rattle.qc_packet.specs.Building.{header_len, pn_len, is_short, dst_cid_of, min_size_of, max_size_of, builder_for, padded_builder, padded_size, end_of, IsSound, IsReady, IsOf}
 use Rattle.qc_packet.specs.PacketSpelling.{len_of, padding_len, with_flip, sealed_packet}
+use Rattle.qc_packet.proofs.Behind.{least_behind, longer_header, most_behind, most_below, tag_fits}
 use Rattle.qc_packet.proofs.Finishes.{flip_len}
 
 number_filled : (number : PacketNumber) → 1 ≤ length (number_bytes number)
@@ -42,113 +43,113 @@ number_there (Some (U16 n)) some = omega arith
 number_there (Some (U24 n)) some = omega arith
 number_there (Some (U32 n)) some = omega arith
 
--- a builder of an empty buffer, asked for so many bytes at least
-abbrev pub full_builder : SpaceId → ℕ → Header → (capacity : ℕ) → (eliciting : Bool) → (least : ℕ) → PacketBuilder
-full_builder space number h capacity eliciting least =
-    record (builder_for space number h 0 capacity 0 eliciting) { min_size = max (min_size_of 0 h) (plus 0 (least - 16)) }
-
--- where its payload ends, by the size of the packet
-pub full_size : (h : Header) (least frames_len : ℕ) → least < 2 ^ 14
-    → max (header_len h + frames_len) (max (min_size_of 0 h) (plus 0 (least - 16))) + 16 ≡ max (max (min_size_of 0 h + 16) least) (header_len h + frames_len + 16)
-full_size h least frames_len small = omega arith
-
--- where a packet of a datagram below 2^14 bytes may end
-record IsMost (h : Header) (size most : ℕ) : Type 0 where
-  same : most ≡ size - 16
-  long : is_short h ≡ false → most + pn_len h ≤ header_len h + 16367
-
-most_of : (h : Header) (size : ℕ) → pn_len h < header_len h → size < 2 ^ 14 → IsMost h size (max_size_of 0 h size)
+-- what begins a packet is sound
+long_below : (start : ℕ) (h : Header) (capacity : ℕ) → is_short h ≡ false → max_size_of start h capacity + pn_len h ≤ start + header_len h + 16367
 unfolding max_size_of
-most_of h size longer small =
-    elim (is_short h) as (λ b. is_short h ≡ b → IsMost h size (if b then size - 16 else min (size - 16) (0 + header_len h - pn_len h + 16367))) [
-      | true ↦ λ e. record { same = refl; long = λ f. cc }
-      | false ↦ λ e. record { same = omega arith; long = λ f. omega arith }
-    ] refl
+long_below start h capacity long = rw long (omega (arith, longer_header h))
 
--- it can finish its packet where header, frames and padding are within the capacity
-pub full_ready : (space : SpaceId) (number : ℕ) (h : Header) (capacity : ℕ) (eliciting : Bool) (least frames_len len : ℕ) → IsSome (header_number h) → pn_len h < header_len h
-    → min_size_of 0 h + 16 ≤ capacity → header_len h + frames_len + 16 ≤ capacity → least ≤ capacity → capacity < 2 ^ 14
-    → len ≡ header_len h + frames_len → IsReady (full_builder space number h capacity eliciting least) len
+pub begun_sound : (space : SpaceId) (number : ℕ) (h : Header) (start capacity datagram_start : ℕ) (ack_eliciting : Bool) → capacity < 2 ^ 64 → IsSome (header_number h)
+    → IsSound (builder_for space number h start capacity datagram_start ack_eliciting)
 unfolding min_size_of
-full_ready space number h capacity eliciting least frames_len len some longer sized room within small is_len =
-    let most : IsMost h capacity (max_size_of 0 h capacity) = most_of h capacity longer small in
+begun_sound space number h start capacity datagram_start ack_eliciting fits some =
     record {
-      sound = record {
-        numbered = number_there (header_number h) some;
-        first = longer;
-        sample = omega arith;
-        tag = omega (arith, most.same);
-        length_field = λ e. omega (arith, most.long e);
-      };
-      begun = omega arith;
-      sizes = omega (arith, most.same);
-      room = omega (arith, most.same);
+      numbered = number_there (header_number h) some;
+      first = longer_header h;
+      sample = omega arith;
+      tag = omega (arith, most_below start h capacity);
+      length_field = λ e. long_below start h capacity e;
     }
 
-pub full_is_of : (space : SpaceId) (number : ℕ) (h : Header) (capacity : ℕ) (eliciting : Bool) (least : ℕ) → IsSome (header_number h) → IsOf (full_builder space number h capacity eliciting least) h
-full_is_of space number h capacity eliciting least some = record { header = refl; number = refl; numbered = number_there (header_number h) some; short = refl }
+-- its builder can finish it where header, frames and padding are within the most that it may have
+pub full_ready : (space : SpaceId) (number : ℕ) (h : Header) (start capacity : ℕ) (eliciting : Bool) (least frames_len len : ℕ)
+    → IsSound (builder_for space number h start (start + capacity) start eliciting)
+    → min_size_of 0 h ≤ max_size_of 0 h capacity → header_len h + frames_len ≤ max_size_of 0 h capacity → least ≤ max_size_of 0 h capacity + 16
+    → len ≡ start + (header_len h + frames_len) → IsReady (padded_builder space number h start capacity eliciting least) len
+full_ready space number h start capacity eliciting least frames_len len sound sized room within is_len =
+    let most : max_size_of start h (start + capacity) ≡ start + max_size_of 0 h capacity = most_behind start h capacity (tag_fits h capacity sized) in
+    let short : min_size_of start h ≡ start + min_size_of 0 h = least_behind start h in
+    record {
+      sound = record {
+        numbered = sound.numbered;
+        first = sound.first;
+        sample = omega (arith, sound.sample);
+        tag = sound.tag;
+        length_field = sound.length_field;
+      };
+      begun = omega arith;
+      sizes = omega arith;
+      room = omega arith;
+    }
+
+pub full_is_of : (space : SpaceId) (number : ℕ) (h : Header) (start capacity : ℕ) (eliciting : Bool) (least : ℕ) → IsSome (header_number h)
+    → IsOf (padded_builder space number h start capacity eliciting least) h
+full_is_of space number h start capacity eliciting least some = record { header = refl; number = refl; numbered = number_there (header_number h) some; short = refl }
 
 -- a header with 20 bytes behind it within the capacity leaves room for what each packet needs
 pub room_enough : (h : Header) (capacity : ℕ) → header_len h + 20 ≤ capacity → min_size_of 0 h + 16 ≤ capacity
 unfolding min_size_of
 room_enough h capacity room = omega (arith, dst_within h)
 
--- what begins an empty buffer, and is then asked for so many bytes
-pub full_builder_is : (space : SpaceId) (number : ℕ) (h : Header) (start capacity : ℕ) (eliciting : Bool) (least : ℕ) (begun b : PacketBuilder) → start ≡ 0
-    → begun ≡ builder_for space number h start capacity 0 eliciting → b ≡ record begun { min_size = max begun.min_size (plus begun.datagram_start (least - 16)) }
-    → b ≡ full_builder space number h capacity eliciting least
-full_builder_is space number h start capacity eliciting least begun b is_start is_begun is_b =
-    is_b ∙ ap (λ (x : PacketBuilder). record x { min_size = max x.min_size (plus x.datagram_start (least - 16)) }) (is_begun ∙ ap (λ (n : ℕ). builder_for space number h n capacity 0 eliciting) is_start)
+-- what is begun behind so many bytes, and is then asked for so many
+pub padded_is : (space : SpaceId) (number : ℕ) (h : Header) (start capacity : ℕ) (eliciting : Bool) (least : ℕ) (begun b : PacketBuilder)
+    → begun ≡ builder_for space number h start (start + capacity) start eliciting → b ≡ record begun { min_size = max begun.min_size (plus begun.datagram_start (least - 16)) }
+    → b ≡ padded_builder space number h start capacity eliciting least
+padded_is space number h start capacity eliciting least begun b is_begun is_b =
+    is_b ∙ ap (λ (x : PacketBuilder). record x { min_size = max x.min_size (plus x.datagram_start (least - 16)) }) is_begun
 
--- its header is longer than its number
-pub longer_header : (space : SpaceId) (number : ℕ) (h : Header) (start capacity : ℕ) (eliciting : Bool) (begun : PacketBuilder)
-    → begun ≡ builder_for space number h start capacity 0 eliciting → IsSound begun → pn_len h < header_len h
-longer_header space number h start capacity eliciting begun is_begun sound =
-    let same : IsSound (builder_for space number h start capacity 0 eliciting) = subst (λ (x : PacketBuilder). IsSound x) is_begun sound in
-    same.first
+-- and its builder can finish it
+pub padded_ready : (space : SpaceId) (number : ℕ) (h : Header) (start capacity : ℕ) (eliciting : Bool) (least frames_len len : ℕ) (begun b : PacketBuilder)
+    → begun ≡ builder_for space number h start (start + capacity) start eliciting → b ≡ padded_builder space number h start capacity eliciting least → IsSound begun
+    → min_size_of 0 h ≤ max_size_of 0 h capacity → header_len h + frames_len ≤ max_size_of 0 h capacity → least ≤ max_size_of 0 h capacity + 16
+    → len ≡ start + (header_len h + frames_len) → IsReady b len
+padded_ready space number h start capacity eliciting least frames_len len begun b is_begun is_b sound sized room within is_len =
+    subst (λ (x : PacketBuilder). IsReady x len) (sym is_b)
+    (full_ready space number h start capacity eliciting least frames_len len (subst (λ (x : PacketBuilder). IsSound x) is_begun sound) sized room within is_len)
 
--- header and frames are all that stands in it
-pub put_is : (header frames before begun out : List ℕ) → before ≡ [] → begun ≡ before ++ header → out ≡ begun ++ frames → out ≡ header ++ frames
-put_is header frames before begun out none is_begun is_out =
-    is_out ∙ ap (λ (x : List ℕ). x ++ frames) (is_begun ∙ ap (λ (x : List ℕ). x ++ header) none)
+-- header and frames stand behind what stood there
+pub put_is : (header frames before begun out : List ℕ) → begun ≡ before ++ header → out ≡ begun ++ frames → out ≡ before ++ (header ++ frames)
+put_is header frames before begun out is_begun is_out = is_out ∙ ap (λ (x : List ℕ). x ++ frames) is_begun ∙ append_assoc before header frames
 
--- how many bytes header and frames have together, the fixed bit flipped or not
-pub put_size : (flip : Bool) (h : Header) (frames out : List ℕ) → out ≡ with_flip flip (header_spelling h 0) ++ frames → length out ≡ header_len h + length frames
-put_size flip h frames out is_out =
-    ap (λ (x : List ℕ). length x) is_out ∙ length-append (with_flip flip (header_spelling h 0)) frames ∙ ap (λ (n : ℕ). n + length frames) (flip_len flip h 0)
+-- how many bytes there are then, the fixed bit flipped or not
+pub put_size : (flip : Bool) (h : Header) (frames before out : List ℕ) → out ≡ before ++ (with_flip flip (header_spelling h 0) ++ frames) → length out ≡ length before + (header_len h + length frames)
+put_size flip h frames before out is_out =
+    ap (λ (x : List ℕ). length x) is_out ∙ length-append before (with_flip flip (header_spelling h 0) ++ frames)
+    ∙ ap (λ (n : ℕ). length before + n) (length-append (with_flip flip (header_spelling h 0)) frames ∙ ap (λ (n : ℕ). n + length frames) (flip_len flip h 0))
 
--- padding of zeros is so many PADDING frames
-pub full_bytes : (mask : List ℕ → List ℕ) (seal : ℕ → List ℕ → List ℕ → List ℕ) (flip : Bool) (space : SpaceId) (number : ℕ) (h : Header) (capacity : ℕ) (eliciting : Bool) (fs : List FrameValue) (least : ℕ) (b : PacketBuilder) (items out : List ℕ)
-    → least < 2 ^ 14 → b ≡ full_builder space number h capacity eliciting least → length items ≡ header_len h + length (frames_spelling fs)
-    → out ≡ sealed_packet mask seal flip h b.exact_number (frames_spelling fs ++ replicate (b.min_size - length items) 0)
-    → out ≡ sealed_packet mask seal flip h number (frames_spelling (fs ++ replicate (padding_len h fs (padded_size h fs least)) Padding))
-full_bytes mask seal flip space number h capacity eliciting fs least b items out small is_b is_len is_out =
-    let pad : b.min_size - length items ≡ padding_len h fs (padded_size h fs least) = omega (arith, ap (λ (x : PacketBuilder). x.min_size) is_b, is_len) in
-    let spelled : frames_spelling (fs ++ replicate (padding_len h fs (padded_size h fs least)) Padding) ≡ frames_spelling fs ++ replicate (padding_len h fs (padded_size h fs least)) 0 =
-    rw (flat_map-append spelling fs (replicate (padding_len h fs (padded_size h fs least)) Padding), zeros (padding_len h fs (padded_size h fs least))) refl in
-    is_out
-    ∙ ap (λ (n : ℕ). sealed_packet mask seal flip h n (frames_spelling fs ++ replicate (b.min_size - length items) 0)) (ap (λ (x : PacketBuilder). x.exact_number) is_b)
-    ∙ ap (λ (n : ℕ). sealed_packet mask seal flip h number (frames_spelling fs ++ replicate n 0)) pad
-    ∙ ap (λ (x : List ℕ). sealed_packet mask seal flip h number x) (sym spelled)
+-- header and frames that stand behind other bytes, and a builder that can finish them
+module _ (flip : Bool) (space : SpaceId) (number : ℕ) (h : Header) (capacity : ℕ) (eliciting : Bool) (fs : List FrameValue) (least : ℕ) (before items : List ℕ) (b : PacketBuilder)
+    (is_b : b ≡ padded_builder space number h (length before) capacity eliciting least) (is_items : items ≡ before ++ (with_flip flip (header_spelling h 0) ++ frames_spelling fs))
+    (ready : IsReady b (length items)) (sized : min_size_of 0 h ≤ max_size_of 0 h capacity) (within : least ≤ max_size_of 0 h capacity + 16) where
+  items_size : length items ≡ length before + (header_len h + length (frames_spelling fs))
+  items_size = put_size flip h (frames_spelling fs) before items is_items
 
--- what begins a packet is sound
-most_below : (start : ℕ) (h : Header) (capacity : ℕ) → max_size_of start h capacity ≤ capacity - 16
-unfolding max_size_of
-most_below start h capacity =
-    elim (is_short h) as (λ b. (if b then capacity - 16 else min (capacity - 16) (start + header_len h - pn_len h + 16367)) ≤ capacity - 16) [ true ↦ omega arith | false ↦ omega arith ]
+  -- all sizes are numbers of the machine
+  all_small : length before + least < 2 ^ 64
+  all_small =
+      let most : max_size_of (length before) h (length before + capacity) ≡ length before + max_size_of 0 h capacity = most_behind (length before) h capacity (tag_fits h capacity sized) in
+      omega (arith, ap (λ (x : PacketBuilder). x.max_size) is_b, ready.sound.tag, most, within)
 
-long_below : (start : ℕ) (h : Header) (capacity : ℕ) → pn_len h < header_len h → is_short h ≡ false → max_size_of start h capacity + pn_len h ≤ start + header_len h + 16367
-unfolding max_size_of
-long_below start h capacity longer long = rw long (omega arith)
+  least_end : b.min_size ≡ length before + max (min_size_of 0 h) (least - 16)
+  least_end = omega (arith, ap (λ (x : PacketBuilder). x.min_size) is_b, least_behind (length before) h, all_small)
 
-pub begun_sound : (space : SpaceId) (number : ℕ) (h : Header) (start capacity datagram_start : ℕ) (ack_eliciting : Bool) → capacity < 2 ^ 64 → pn_len h < header_len h → IsSome (header_number h)
-    → IsSound (builder_for space number h start capacity datagram_start ack_eliciting)
-unfolding min_size_of
-begun_sound space number h start capacity datagram_start ack_eliciting fits longer some =
-    record {
-      numbered = number_there (header_number h) some;
-      first = longer;
-      sample = omega arith;
-      tag = omega (arith, most_below start h capacity);
-      length_field = λ e. long_below start h capacity longer e;
-    }
+  -- how many bytes there are once it is finished
+  pub full_size : (n : ℕ) → n ≡ end_of b (length items) + 16 → n ≡ length before + padded_size h fs least
+  full_size n is_n = omega (arith, is_n, least_end, items_size)
+
+  -- how many bytes it is padded with
+  pub full_padding : b.min_size - length items ≡ padding_len h fs (padded_size h fs least)
+  full_padding = omega (arith, least_end, items_size)
+
+  -- padding of zeros is so many PADDING frames
+  pub full_bytes : (mask : List ℕ → List ℕ) (seal : ℕ → List ℕ → List ℕ → List ℕ) (out : List ℕ) → IsSome (header_number h)
+      → ((before : List ℕ) (flip : Bool) (h : Header) (plain : List ℕ) → b.start ≡ length before → IsOf b h → items ≡ before ++ (with_flip flip (header_spelling h 0) ++ plain)
+      → out ≡ before ++ sealed_packet mask seal flip h b.exact_number (plain ++ replicate (b.min_size - length items) 0))
+      → out ≡ before ++ sealed_packet mask seal flip h number (frames_spelling (fs ++ replicate (padding_len h fs (padded_size h fs least)) Padding))
+  full_bytes mask seal out some finished =
+      let pad : ℕ = padding_len h fs (padded_size h fs least) in
+      let spelled : frames_spelling (fs ++ replicate pad Padding) ≡ frames_spelling fs ++ replicate pad 0 = rw (flat_map-append spelling fs (replicate pad Padding), zeros pad) refl in
+      finished before flip h (frames_spelling fs) (ap (λ (x : PacketBuilder). x.start) is_b)
+      (subst (λ (x : PacketBuilder). IsOf x h) (sym is_b) (full_is_of space number h (length before) capacity eliciting least some)) is_items
+      ∙ ap (λ (n : ℕ). before ++ sealed_packet mask seal flip h n (frames_spelling fs ++ replicate (b.min_size - length items) 0)) (ap (λ (x : PacketBuilder). x.exact_number) is_b)
+      ∙ ap (λ (n : ℕ). before ++ sealed_packet mask seal flip h number (frames_spelling fs ++ replicate n 0)) full_padding
+      ∙ ap (λ (x : List ℕ). before ++ sealed_packet mask seal flip h number x) (sym spelled)

@@ -1,3 +1,4 @@
+pub mod Behind
 pub mod Greased
 pub mod Finishes
 pub mod Full

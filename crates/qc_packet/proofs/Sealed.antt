@@ -1,5 +1,5 @@
 -- Packets that are written, filled up and sealed in one buffer.
-use Rattle.std.proofs.Common.{◌≡◌, ℕ, ◌+◌, ◌-◌, ◌<◌, ◌≤◌, List, ◌++◌, length, take, replicate, refl, ap, ◌∙◌, append_assoc, arith, length-append, Option, Some, None, IsSome, IfSome}
+use Rattle.std.proofs.Common.{◌≡◌, ℕ, ◌+◌, ◌-◌, ◌<◌, ◌≤◌, List, ◌++◌, length, take, replicate, refl, ap, ◌∙◌, append_assoc, arith, length-append}
 use Rattle.std.proofs.Math.Seq.{take-append_seam, drop-append_seam}
 use Rattle.std.proofs.lemmas.List.{take_all, length-replicate}
 use Rattle.std.proofs.lemmas.Grind.{flat_map-append}
@@ -9,8 +9,6 @@ use Rattle.qc_frame.specs.FrameSpelling.{spelling, frames_spelling}
 use Rattle.qc_frame.specs.declared.frames.FrameOf.TheVariants.{Padding}
 use Rattle.qc_frame.proofs.Padded.{zeros}
 use Rattle.qc_base.specs.Mask.{masked}
-use Rattle.qc_base.specs.declared.packet_number.PacketNumber.{PacketNumber}
-use Rattle.qc_base.specs.PacketNumber.{number_len}
 use Rattle.qc_header.specs.declared.header.Header.{Header}
 use Rattle.qc_header.specs.HeaderSpelling.{header_spelling, header_number}
 use Rattle.qc_packet.specs.PacketSpelling.{len_of, sealed_packet, packet_spelling}
@@ -48,8 +46,3 @@ sealed_all mask seal h number p size field len at plain full out is_plain is_ful
     let inner : sealed_in_place seal number full len ≡ header_spelling h field ++ seal number (header_spelling h field) p = ap (λ (x : List ℕ). sealed_in_place seal number x len) bytes ∙ sealed_full seal number (header_spelling h field) p (size - length plain) len left is_len in
     let all : out ≡ masked mask (length (header_spelling h field) - len_of (header_number h)) (header_spelling h field ++ seal number (header_spelling h field) p) = is_out ∙ ap (λ (x : List ℕ). masked mask at x) inner ∙ ap (λ (x : ℕ). masked mask x (header_spelling h field ++ seal number (header_spelling h field) p)) place in
     all ∙ ap (λ (x : ℕ). masked mask (length (header_spelling h x) - len_of (header_number h)) (header_spelling h x ++ seal number (header_spelling h x) p)) value
-
--- a header is longer than its number
-pub longer_than_number : (number : Option PacketNumber) (n : ℕ) → IsSome number → IfSome number (λ x. number_len x < n) → len_of number < n
-longer_than_number None n some h = cc
-longer_than_number (Some x) n some h = h

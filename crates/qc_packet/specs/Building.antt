@@ -1,5 +1,6 @@
 -- How big a packet may be, when none is begun, and what a builder knows of the packet that it began.
 use Rattle.std.specs.Prelude.{◌≡◌, ℕ, ◌+◌, ◌-◌, ◌<◌, ◌≤◌, ◌^◌, Bool, true, false, ◌&&◌, ◌||◌, List, length, Option, Some, None, max, min, nat_lt, nat_le, if◌then◌else◌}
+use Rattle.qc_base.specs.Time.{plus}
 use Rattle.qc_base.specs.declared.side.SpaceId.{SpaceId}
 use Rattle.qc_frame.specs.Frame.{FrameValue}
 use Rattle.qc_frame.specs.FrameSpelling.{frames_spelling}
@@ -86,6 +87,13 @@ builder_for space number h start capacity datagram_start ack_eliciting =
       pn_len = pn_len h;
     }
 
+-- The same of a packet of at most `capacity` bytes, which begins its datagram at start, once `least` bytes were asked for.
+abbrev pub padded_builder : SpaceId → ℕ → Header → (start capacity : ℕ) → Bool → (least : ℕ) → PacketBuilder
+padded_builder space number h start capacity ack_eliciting least =
+    record (builder_for space number h start (start + capacity) start ack_eliciting) {
+      min_size = max (min_size_of start h) (plus start (least - 16));
+    }
+
 -- A builder whose sizes leave room for what sealing adds: the sample of header protection, the tag, and a Length
 -- field below 2^14.
 pub record IsSound (b : PacketBuilder) : Type 0 where
@@ -110,8 +118,8 @@ pub record IsOf (b : PacketBuilder) (h : Header) : Type 0 where
   pub numbered : 1 ≤ pn_len h
   pub short : b.short_header ≡ is_short h
 
--- How many bytes a packet with these frames has that begins an empty buffer, where `least` are asked for: as many as it needs
--- for a sample and to look like no reset, or that many, or as many as header, frames and tag have.
+-- How many bytes a packet with these frames has, where `least` are asked for: as many as it needs for a sample and to look like
+-- no reset, or that many, or as many as header, frames and tag have.
 abbrev pub padded_size : Header → List FrameValue → (least : ℕ) → ℕ
 padded_size h fs least = max (max (min_size_of 0 h + 16) least) (header_len h + length (frames_spelling fs) + 16)
 

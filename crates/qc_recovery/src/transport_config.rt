@@ -428,7 +428,7 @@ impl TransportConfig {
     }
 
     /// Sets whether one transmit may hold several datagrams of one size.
-    /// It has no effect yet: a transmit makes one datagram.
+    /// Where it is off, a transmit makes one datagram.
     pub fn enable_segmentation_offload(&mut self, value: bool) -> &mut Self
         ensures same { result.ghost_name ≡ self.entry.ghost_name }
         ensures set { result.now ≡ record self.old { enable_segmentation_offload = value } }

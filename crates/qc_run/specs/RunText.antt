@@ -80,10 +80,14 @@ token_of s = unwrap_or s.token []
 abbrev pub start_of : Settings → ℕ
 start_of s = unwrap_or s.time 0
 
--- the usual transport, with this end's limit on idle time where a line gives one
-abbrev pub transport_of : Option ℕ → TransportValues
-transport_of None = default_transport
-transport_of (Some millis) = record default_transport { max_idle_timeout = Some millis }
+-- the usual transport, with this end's limit on idle time in milliseconds, and whether the datagrams of a transmit may stand behind each
+-- other, where lines say so
+unfoldable pub transport_of : Settings → TransportValues
+transport_of s =
+    record default_transport {
+      max_idle_timeout = Some (unwrap_or s.idle 30000);
+      enable_segmentation_offload = unwrap_or s.gso true;
+    }
 
 -- the window in bytes with which the path's congestion controller begins: ten datagrams of 1200 (RFC 9002, section 7.2)
 abbrev pub INITIAL_WINDOW : ℕ
@@ -105,7 +109,7 @@ settings_of s =
 
 -- what an end announces of this transport
 abbrev pub parameters_of : Settings → TransportParameters
-parameters_of s = announced_parameters (transport_of s.idle) 1472 (local_of s) true
+parameters_of s = announced_parameters (transport_of s) 1472 (local_of s) true
 
 -- the token that resets a server's connection: a key of zeros signs its id
 abbrev pub reset_token_of : Settings → List ℕ
@@ -142,15 +146,15 @@ Sessions = SessionGhosts ToySession ToyHeaderKey ToyPacketKey (Unit {0}) (Unit {
 abbrev pub script_client : Sessions → HeaderMaskGhosts ToyHeaderKey → PacketKeyGhosts ToyPacketKey → ControllerGhosts Reno → Settings → SocketAddr → View toy
 script_client s h p c set remote =
     first_view (meaning s h p c) (client_session set) (words_named set.random)
-    (fixed_of Client 1 (local_of set) (remote_of set) None false None (transport_of set.idle) true (words_named set.random))
-    remote (remote_of set) (token_of set) (transport_of set.idle) (control_of (transport_of set.idle)) (start_of set)
+    (fixed_of Client 1 (local_of set) (remote_of set) None false None (transport_of set) true (words_named set.random))
+    remote (remote_of set) (token_of set) (transport_of set) (control_of (transport_of set)) (start_of set)
 
 -- so the server, which announces no preferred address, and whose client's address isn't validated
 abbrev pub script_server : Sessions → HeaderMaskGhosts ToyHeaderKey → PacketKeyGhosts ToyPacketKey → ControllerGhosts Reno → Settings → SocketAddr → View toy
 script_server s h p c set remote =
     server_view (meaning s h p c) (server_session set) (words_named set.random)
-    (fixed_of Server 1 (local_of set) (first_of set) None false None (transport_of set.idle) true (words_named set.random))
-    remote (remote_of set) false (transport_of set.idle) (control_of (transport_of set.idle)) (start_of set)
+    (fixed_of Server 1 (local_of set) (first_of set) None false None (transport_of set) true (words_named set.random))
+    remote (remote_of set) false (transport_of set) (control_of (transport_of set)) (start_of set)
 
 -- the end of this side
 abbrev pub view_for : Side → Sessions → HeaderMaskGhosts ToyHeaderKey → PacketKeyGhosts ToyPacketKey → ControllerGhosts Reno → Settings → SocketAddr → View toy

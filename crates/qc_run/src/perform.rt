@@ -49,14 +49,25 @@ fn id_or(given: Option<ConnectionId>, byte: u8) -> ConnectionId
     }
 }
 
-/// The usual transport, with this limit on idle time in milliseconds where a line gives one.
-fn transport_with(idle: Option<VarInt>) -> TransportConfig
-    ensures { result ≡ transport_of idle }
+/// This end's limit on idle time in milliseconds: the one that a line gives, or the usual one.
+fn idle_or(given: Option<VarInt>) -> VarInt
+    ensures { result ≡ unwrap_or given 30000 }
+{
+    match given {
+        Some(millis) => millis,
+        None => VarInt::from_u32(30_000),
+    }
+}
+
+/// The usual transport, with this end's limit on idle time, and whether the datagrams of a transmit may stand behind each other, where
+/// lines say so.
+#[tactic(auto, unfolding(crate::specs::RunText::transport_of))]
+fn transport_with(set: &Settings) -> TransportConfig
+    ensures { result ≡ transport_of set.now }
 {
     let mut transport = TransportConfig::default();
-    if let Some(millis) = idle {
-        transport.max_idle_timeout(Some(IdleTimeout::from(millis)));
-    }
+    transport.max_idle_timeout(Some(IdleTimeout::from(idle_or(set.idle))));
+    transport.enable_segmentation_offload(set.gso.unwrap_or(true));
     transport
 }
 
@@ -107,7 +118,7 @@ fn session_of_client(
     set: &Settings,
     transport: &TransportConfig,
 ) -> Result<ToySession, AllocError>
-    requires { transport.now ≡ transport_of set.now.idle }
+    requires { transport.now ≡ transport_of set.now }
     ensures { IfOk result (λ session. session ≡ client_session set.now) }
 {
     let client = ToyClient {
@@ -134,7 +145,7 @@ fn server_parameters(
     transport: &TransportConfig,
     token: ResetToken,
 ) -> TransportParameters
-    requires transport { transport.now ≡ transport_of set.now.idle }
+    requires transport { transport.now ≡ transport_of set.now }
     requires token { token ≡ reset_token_of set.now }
     ensures { result ≡ server_parameters_of set.now }
 {
@@ -150,7 +161,7 @@ fn session_of_server(
     set: &Settings,
     transport: &TransportConfig,
 ) -> Result<ToySession, AllocError>
-    requires { transport.now ≡ transport_of set.now.idle }
+    requires { transport.now ≡ transport_of set.now }
     ensures { IfOk result (λ session. session ≡ server_session set.now) }
 {
     let server = ToyServer {
@@ -176,12 +187,12 @@ fn client_setup(alloc: Global, set: &Settings) -> Result<ClientSetup<Toy>, Alloc
     ensures lifetime { IfOk result (λ setup. setup.cid_lifetime ≡ None) }
     ensures local_ip { IfOk result (λ setup. setup.local_ip ≡ None) }
     ensures first_cid { IfOk result (λ setup. setup.first_cid ≡ remote_of set.now) }
-    ensures transport { IfOk result (λ setup. setup.transport ≡ transport_of set.now.idle) }
+    ensures transport { IfOk result (λ setup. setup.transport ≡ transport_of set.now) }
     ensures control { IfOk result (λ setup. setup.control ≡ INITIAL_WINDOW) }
     ensures grease { IfOk result (λ setup. setup.grease_quic_bit ≡ true) }
     ensures remote { IfOk result (λ setup. IsAddressOf set.now.addr setup.remote) }
 {
-    let transport = transport_with(set.idle);
+    let transport = transport_with(set);
     let local_cid = id_or(set.local, 1);
     let session = session_of_client(alloc, set, &transport)?;
     Ok(ClientSetup {
@@ -215,13 +226,13 @@ fn server_setup(alloc: Global, set: &Settings) -> Result<ServerSetup<Toy>, Alloc
     ensures local_ip { IfOk result (λ setup. setup.local_ip ≡ None) }
     ensures first_cid { IfOk result (λ setup. setup.first_cid ≡ first_of set.now) }
     ensures remote_cid { IfOk result (λ setup. setup.remote_cid ≡ remote_of set.now) }
-    ensures transport { IfOk result (λ setup. setup.transport ≡ transport_of set.now.idle) }
+    ensures transport { IfOk result (λ setup. setup.transport ≡ transport_of set.now) }
     ensures control { IfOk result (λ setup. setup.control ≡ INITIAL_WINDOW) }
     ensures grease { IfOk result (λ setup. setup.grease_quic_bit ≡ true) }
     ensures remote { IfOk result (λ setup. IsAddressOf set.now.addr setup.remote) }
     ensures validated { IfOk result (λ setup. setup.validated ≡ false) }
 {
-    let transport = transport_with(set.idle);
+    let transport = transport_with(set);
     let local_cid = id_or(set.local, 1);
     let session = session_of_server(alloc, set, &transport)?;
     Ok(ServerSetup {

@@ -1,5 +1,5 @@
 -- The line of a setting: its field, and that no other setting has it.
-use Rattle.std.proofs.Common.{◌≡◌, ◌≢◌, ℕ, ◌+◌, ◌^◌, ◌<◌, ◌≤◌, List, [], ◌∷◌, ◌++◌, length, get_or, Bool, true, false, ◌==◌, refl, sym, ◌∙◌, ap, arith, codes}
+use Rattle.std.proofs.Common.{◌≡◌, ◌≢◌, ℕ, ◌+◌, ◌^◌, ◌<◌, ◌≤◌, List, [], ◌∷◌, ◌++◌, length, get_or, Bool, true, false, Option, Some, None, ◌==◌, refl, sym, ◌∙◌, ap, arith, codes}
 use Rattle.std.proofs.lemmas.List.{append_assoc, append_cancel_left, append_cancel_right}
 use Rattle.std.specs.Fmt.{decimal}
 use Rattle.std.proofs.lemmas.Fmt.{decimal_injective}
@@ -13,10 +13,10 @@ use Rattle.qc_state.specs.declared.input.Input.{Input}
 use Rattle.qc_script.specs.declared.settings.RandomWords.{RandomWords}
 use Rattle.qc_script.specs.declared.settings.RandomWords.TheVariants.{Zeros, Seed}
 use Rattle.qc_script.specs.declared.settings.Setting.{Setting}
-use Rattle.qc_script.specs.declared.settings.Setting.TheVariants.{Random, Time, Local, Remote, First, Addr, Token, Secret, LimitInitial, LimitHandshake, LimitFailures, Idle}
-use Rattle.qc_script.specs.Fields.{hex_field, address_text, IsAddress}
+use Rattle.qc_script.specs.declared.settings.Setting.TheVariants.{Random, Time, Local, Remote, First, Addr, Token, Secret, LimitInitial, LimitHandshake, LimitFailures, Idle, Gso}
+use Rattle.qc_script.specs.Fields.{hex_field, address_text, flag_text, IsAddress}
 use Rattle.qc_script.specs.Script.{random_text, side_line, input_line, IsRandom, IsSeed, IsId, IsRemote, IsFirst, IsToken, IsSecret}
-use Rattle.qc_script.specs.Items.{setting_line, IsSetting, IsNextSetting}
+use Rattle.qc_script.specs.Items.{setting_line, IsSetting, IsNextSetting, IsSettingRead, IsOfTransport, IsTransportRead}
 use Rattle.qc_script.proofs.FieldLemmas.{hex_field_injective, address_injective}
 use Rattle.qc_script.proofs.LineLemmas.{no_set}
 
@@ -59,6 +59,7 @@ kind (LimitInitial packets) = 318
 kind (LimitHandshake packets) = 317
 kind (LimitFailures packets) = 315
 kind (Idle limit) = 205
+kind (Gso allowed) = 218
 
 kind_at : (x : Setting) → mark (setting_line x) ≡ kind x
 unfolding setting_line
@@ -74,6 +75,7 @@ kind_at (LimitInitial packets) = refl
 kind_at (LimitHandshake packets) = refl
 kind_at (LimitFailures packets) = refl
 kind_at (Idle limit) = refl
+kind_at (Gso allowed) = refl
 
 kind_of_text : (side : Side) (text : List ℕ) (x : Setting) → IsNextSetting side text x → mark (text ++ 10 ∷ []) ≡ kind x
 kind_of_text side text x h = ap mark h.spelled ∙ kind_at x
@@ -127,6 +129,10 @@ limit_failures_next field packets e h side = record { spelled = spelled_on (code
 pub idle_next : (field : List ℕ) (limit : ℕ) → field ≡ decimal limit → limit < 2 ^ 62 → (side : Side) → IsNextSetting side (codes "set idle " ++ field) (Idle limit)
 unfolding setting_line
 idle_next field limit e h side = record { spelled = spelled_on (codes "set idle ") field (decimal limit) e; within = h }
+
+pub gso_next : (field : List ℕ) (allowed : Bool) → field ≡ flag_text allowed → (side : Side) → IsNextSetting side (codes "set gso " ++ field) (Gso allowed)
+unfolding setting_line
+gso_next field allowed e side = record { spelled = spelled_on (codes "set gso ") field (flag_text allowed) e; within = tt }
 
 -- a line that begins with `set random ` is that of no other setting
 pub no_random : (field : List ℕ) → ((words : RandomWords) → IsRandom words → field ≢ random_text words) → (side : Side) (x : Setting) → IsNextSetting side (codes "set random " ++ field) x → ⊥
@@ -189,23 +195,51 @@ unfolding setting_line
 no_idle field none side (Idle n) h = none n h.within (field_same (codes "set idle ") field (decimal n) h.spelled)
 no_idle field none side x h = let e : 205 ≡ kind x = kind_of_text side (codes "set idle " ++ field) x h in omega (arith, e)
 
--- a text with none of the words is the line of no setting
-pub no_set_word : (text : List ℕ) → ((rest : List ℕ) → text ≢ codes "set random " ++ rest) → ((rest : List ℕ) → text ≢ codes "set time " ++ rest) → ((rest : List ℕ) → text ≢ codes "set local " ++ rest) → ((rest : List ℕ) → text ≢ codes "set remote " ++ rest)
-    → ((rest : List ℕ) → text ≢ codes "set first " ++ rest) → ((rest : List ℕ) → text ≢ codes "set addr " ++ rest) → ((rest : List ℕ) → text ≢ codes "set token " ++ rest) → ((rest : List ℕ) → text ≢ codes "set secret " ++ rest)
-    → ((rest : List ℕ) → text ≢ codes "set limit_initial " ++ rest) → ((rest : List ℕ) → text ≢ codes "set limit_handshake " ++ rest) → ((rest : List ℕ) → text ≢ codes "set limit_failures " ++ rest) → ((rest : List ℕ) → text ≢ codes "set idle " ++ rest) → (side : Side) (x : Setting) → IsNextSetting side text x → ⊥
+pub no_gso : (field : List ℕ) → ((flag : Bool) → field ≢ flag_text flag) → (side : Side) (x : Setting) → IsNextSetting side (codes "set gso " ++ field) x → ⊥
 unfolding setting_line
-no_set_word text randoms times locals remotes firsts addrs tokens secrets initials handshakes failures idles side (Random words) h = randoms (random_text words) (words_and_field (codes "set random ") text (random_text words) h.spelled)
-no_set_word text randoms times locals remotes firsts addrs tokens secrets initials handshakes failures idles side (Time now) h = times (decimal now) (words_and_field (codes "set time ") text (decimal now) h.spelled)
-no_set_word text randoms times locals remotes firsts addrs tokens secrets initials handshakes failures idles side (Local id) h = locals (hex_field id) (words_and_field (codes "set local ") text (hex_field id) h.spelled)
-no_set_word text randoms times locals remotes firsts addrs tokens secrets initials handshakes failures idles side (Remote id) h = remotes (hex_field id) (words_and_field (codes "set remote ") text (hex_field id) h.spelled)
-no_set_word text randoms times locals remotes firsts addrs tokens secrets initials handshakes failures idles side (First id) h = firsts (hex_field id) (words_and_field (codes "set first ") text (hex_field id) h.spelled)
-no_set_word text randoms times locals remotes firsts addrs tokens secrets initials handshakes failures idles side (Addr address) h = addrs (address_text address) (words_and_field (codes "set addr ") text (address_text address) h.spelled)
-no_set_word text randoms times locals remotes firsts addrs tokens secrets initials handshakes failures idles side (Token bytes) h = tokens (hex_field bytes) (words_and_field (codes "set token ") text (hex_field bytes) h.spelled)
-no_set_word text randoms times locals remotes firsts addrs tokens secrets initials handshakes failures idles side (Secret bytes) h = secrets (hex_field bytes) (words_and_field (codes "set secret ") text (hex_field bytes) h.spelled)
-no_set_word text randoms times locals remotes firsts addrs tokens secrets initials handshakes failures idles side (LimitInitial packets) h = initials (decimal packets) (words_and_field (codes "set limit_initial ") text (decimal packets) h.spelled)
-no_set_word text randoms times locals remotes firsts addrs tokens secrets initials handshakes failures idles side (LimitHandshake packets) h = handshakes (decimal packets) (words_and_field (codes "set limit_handshake ") text (decimal packets) h.spelled)
-no_set_word text randoms times locals remotes firsts addrs tokens secrets initials handshakes failures idles side (LimitFailures packets) h = failures (decimal packets) (words_and_field (codes "set limit_failures ") text (decimal packets) h.spelled)
-no_set_word text randoms times locals remotes firsts addrs tokens secrets initials handshakes failures idles side (Idle limit) h = idles (decimal limit) (words_and_field (codes "set idle ") text (decimal limit) h.spelled)
+no_gso field none side (Gso flag) h = none flag (field_same (codes "set gso ") field (flag_text flag) h.spelled)
+no_gso field none side x h = let e : 218 ≡ kind x = kind_of_text side (codes "set gso " ++ field) x h in omega (arith, e)
+
+-- a text with none of the words is the line of no setting of the transport
+pub no_transport : (text : List ℕ) → ((rest : List ℕ) → text ≢ codes "set idle " ++ rest) → ((rest : List ℕ) → text ≢ codes "set gso " ++ rest)
+    → (side : Side) (x : Setting) → IsOfTransport x → IsNextSetting side text x → ⊥
+unfolding setting_line
+no_transport text idles gsos side (Idle limit) of h = idles (decimal limit) (words_and_field (codes "set idle ") text (decimal limit) h.spelled)
+no_transport text idles gsos side (Gso allowed) of h = gsos (flag_text allowed) (words_and_field (codes "set gso ") text (flag_text allowed) h.spelled)
+no_transport text idles gsos side _ of h = absurd of
+
+-- what is read of a text as a setting is one of the transport too, and what isn't is none
+pub transport_read : (side : Side) (text : List ℕ) (r : Option Setting) → IsSettingRead side text r → IsTransportRead side text r
+transport_read side text None h = λ x of n. h x n
+transport_read side text (Some x) h = h
+
+-- a text with none of the words is the line of no setting
+no_set_word : (text : List ℕ) → ((rest : List ℕ) → text ≢ codes "set random " ++ rest) → ((rest : List ℕ) → text ≢ codes "set time " ++ rest) → ((rest : List ℕ) → text ≢ codes "set local " ++ rest) → ((rest : List ℕ) → text ≢ codes "set remote " ++ rest)
+    → ((rest : List ℕ) → text ≢ codes "set first " ++ rest) → ((rest : List ℕ) → text ≢ codes "set addr " ++ rest) → ((rest : List ℕ) → text ≢ codes "set token " ++ rest) → ((rest : List ℕ) → text ≢ codes "set secret " ++ rest)
+    → ((rest : List ℕ) → text ≢ codes "set limit_initial " ++ rest) → ((rest : List ℕ) → text ≢ codes "set limit_handshake " ++ rest) → ((rest : List ℕ) → text ≢ codes "set limit_failures " ++ rest) → ((side : Side) (x : Setting) → IsOfTransport x → IsNextSetting side text x → ⊥)
+    → (side : Side) (x : Setting) → IsNextSetting side text x → ⊥
+unfolding setting_line
+no_set_word text randoms times locals remotes firsts addrs tokens secrets initials handshakes failures transports side (Random words) h = randoms (random_text words) (words_and_field (codes "set random ") text (random_text words) h.spelled)
+no_set_word text randoms times locals remotes firsts addrs tokens secrets initials handshakes failures transports side (Time now) h = times (decimal now) (words_and_field (codes "set time ") text (decimal now) h.spelled)
+no_set_word text randoms times locals remotes firsts addrs tokens secrets initials handshakes failures transports side (Local id) h = locals (hex_field id) (words_and_field (codes "set local ") text (hex_field id) h.spelled)
+no_set_word text randoms times locals remotes firsts addrs tokens secrets initials handshakes failures transports side (Remote id) h = remotes (hex_field id) (words_and_field (codes "set remote ") text (hex_field id) h.spelled)
+no_set_word text randoms times locals remotes firsts addrs tokens secrets initials handshakes failures transports side (First id) h = firsts (hex_field id) (words_and_field (codes "set first ") text (hex_field id) h.spelled)
+no_set_word text randoms times locals remotes firsts addrs tokens secrets initials handshakes failures transports side (Addr address) h = addrs (address_text address) (words_and_field (codes "set addr ") text (address_text address) h.spelled)
+no_set_word text randoms times locals remotes firsts addrs tokens secrets initials handshakes failures transports side (Token bytes) h = tokens (hex_field bytes) (words_and_field (codes "set token ") text (hex_field bytes) h.spelled)
+no_set_word text randoms times locals remotes firsts addrs tokens secrets initials handshakes failures transports side (Secret bytes) h = secrets (hex_field bytes) (words_and_field (codes "set secret ") text (hex_field bytes) h.spelled)
+no_set_word text randoms times locals remotes firsts addrs tokens secrets initials handshakes failures transports side (LimitInitial packets) h = initials (decimal packets) (words_and_field (codes "set limit_initial ") text (decimal packets) h.spelled)
+no_set_word text randoms times locals remotes firsts addrs tokens secrets initials handshakes failures transports side (LimitHandshake packets) h = handshakes (decimal packets) (words_and_field (codes "set limit_handshake ") text (decimal packets) h.spelled)
+no_set_word text randoms times locals remotes firsts addrs tokens secrets initials handshakes failures transports side (LimitFailures packets) h = failures (decimal packets) (words_and_field (codes "set limit_failures ") text (decimal packets) h.spelled)
+no_set_word text randoms times locals remotes firsts addrs tokens secrets initials handshakes failures transports side (Idle limit) h = transports side (Idle limit) tt h
+no_set_word text randoms times locals remotes firsts addrs tokens secrets initials handshakes failures transports side (Gso allowed) h = transports side (Gso allowed) tt h
+
+-- behind the other words the reader of the transport's settings reads each setting
+pub last_read : (text : List ℕ) → ((rest : List ℕ) → text ≢ codes "set random " ++ rest) → ((rest : List ℕ) → text ≢ codes "set time " ++ rest) → ((rest : List ℕ) → text ≢ codes "set local " ++ rest) → ((rest : List ℕ) → text ≢ codes "set remote " ++ rest)
+    → ((rest : List ℕ) → text ≢ codes "set first " ++ rest) → ((rest : List ℕ) → text ≢ codes "set addr " ++ rest) → ((rest : List ℕ) → text ≢ codes "set token " ++ rest) → ((rest : List ℕ) → text ≢ codes "set secret " ++ rest)
+    → ((rest : List ℕ) → text ≢ codes "set limit_initial " ++ rest) → ((rest : List ℕ) → text ≢ codes "set limit_handshake " ++ rest) → ((rest : List ℕ) → text ≢ codes "set limit_failures " ++ rest) → (r : Option Setting) → ((side : Side) → IsTransportRead side text r)
+    → (side : Side) → IsSettingRead side text r
+last_read text randoms times locals remotes firsts addrs tokens secrets initials handshakes failures None h side = no_set_word text randoms times locals remotes firsts addrs tokens secrets initials handshakes failures h side
+last_read text randoms times locals remotes firsts addrs tokens secrets initials handshakes failures (Some x) h side = h side
 
 -- ---- lines and settings
 
@@ -253,6 +287,12 @@ random_injective Zeros (Seed bytes) h k e = absurd (omega (arith, seed_size byte
 random_injective (Seed bytes) Zeros h k e = absurd (omega (arith, seed_size bytes h, ap length e))
 random_injective (Seed a) (Seed b) h k e = ap Seed (hex_field_injective a b h.0 k.0 e)
 
+flag_injective : (a b : Bool) → flag_text a ≡ flag_text b → a ≡ b
+flag_injective false false e = refl
+flag_injective false true e = absurd (omega (arith, ap (λ (z : List ℕ). get_or z 0 0) e))
+flag_injective true false e = absurd (omega (arith, ap (λ (z : List ℕ). get_or z 0 0) e))
+flag_injective true true e = refl
+
 kinds : (x y : Setting) → setting_line x ≡ setting_line y → kind x ≡ kind y
 kinds x y e = sym (kind_at x) ∙ ap mark e ∙ kind_at y
 
@@ -274,6 +314,7 @@ setting_line_injective side (LimitInitial n) (LimitInitial n') h k e = ap LimitI
 setting_line_injective side (LimitHandshake n) (LimitHandshake n') h k e = ap LimitHandshake (decimal_injective n n' h k (fields_same_behind (codes "set limit_handshake ") (decimal n) (decimal n') e))
 setting_line_injective side (LimitFailures n) (LimitFailures n') h k e = ap LimitFailures (decimal_injective n n' h k (fields_same_behind (codes "set limit_failures ") (decimal n) (decimal n') e))
 setting_line_injective side (Idle n) (Idle n') h k e = ap Idle (decimal_injective n n' (omega (arith, h)) (omega (arith, k)) (fields_same_behind (codes "set idle ") (decimal n) (decimal n') e))
+setting_line_injective side (Gso a) (Gso b) h k e = ap Gso (flag_injective a b (fields_same_behind (codes "set gso ") (flag_text a) (flag_text b) e))
 setting_line_injective side x y h k e = absurd (omega (arith, kinds x y e))
 
 -- nor is it an input's: its word is `set`, with a space behind it
@@ -291,6 +332,7 @@ setting_word (LimitInitial packets) = refl
 setting_word (LimitHandshake packets) = refl
 setting_word (LimitFailures packets) = refl
 setting_word (Idle limit) = refl
+setting_word (Gso allowed) = refl
 
 pub setting_no_input : (x : Setting) (i : Input) → setting_line x ≢ input_line i
 setting_no_input x i e = no_set i (ap (λ (z : List ℕ). get_or z 0 0 + get_or z 3 0) (sym e) ∙ setting_word x)
@@ -310,6 +352,7 @@ setting_ends (LimitInitial packets) = (codes "set limit_initial " ++ decimal pac
 setting_ends (LimitHandshake packets) = (codes "set limit_handshake " ++ decimal packets, sym (append_assoc (codes "set limit_handshake ") (decimal packets) (10 ∷ [])))
 setting_ends (LimitFailures packets) = (codes "set limit_failures " ++ decimal packets, sym (append_assoc (codes "set limit_failures ") (decimal packets) (10 ∷ [])))
 setting_ends (Idle limit) = (codes "set idle " ++ decimal limit, sym (append_assoc (codes "set idle ") (decimal limit) (10 ∷ [])))
+setting_ends (Gso allowed) = (codes "set gso " ++ flag_text allowed, sym (append_assoc (codes "set gso ") (flag_text allowed) (10 ∷ [])))
 
 -- a side's line is that of no other side
 pub side_line_injective : (a b : Side) → side_line a ≡ side_line b → a ≡ b

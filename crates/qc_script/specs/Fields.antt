@@ -1,5 +1,5 @@
 -- The fields of a line: numbers, bytes, addresses and marks.
-use Rattle.std.specs.Prelude.{◌≡◌, ◌≢◌, ℕ, ◌^◌, ◌<◌, List, [], ◌∷◌, ◌++◌, length, codes, Option, Some, None}
+use Rattle.std.specs.Prelude.{◌≡◌, ◌≢◌, ℕ, ◌^◌, ◌<◌, List, [], ◌∷◌, ◌++◌, length, codes, Bool, true, false, Option, Some, None}
 use Rattle.std.specs.Fmt.{decimal}
 use Rattle.std.specs.Net.Addr.{ipv4_octets, ipv6_octets}
 use Rattle.std.specs.Net.Socket.{socket_ip, socket_port, socket_flowinfo, socket_scope_id}
@@ -57,6 +57,11 @@ ecn_text (Some mark) = decimal (ecn_bits mark)
 abbrev pub dir_text : Dir → List ℕ
 dir_text Bi = codes "bi"
 dir_text Uni = codes "uni"
+
+-- a flag as a digit
+abbrev pub flag_text : Bool → List ℕ
+flag_text false = codes "0"
+flag_text true = codes "1"
 
 -- the text is the decimal of a number below this bound, a space, and the rest
 pub record Begins (bound : ℕ) (text : List ℕ) (number : ℕ) (rest : List ℕ) : Type 0 where

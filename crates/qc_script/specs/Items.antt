@@ -5,10 +5,10 @@ use Rattle.qc_base.specs.declared.side.Side.{Side}
 use Rattle.qc_state.specs.declared.input.Input.{Input}
 use Rattle.qc_script.specs.declared.settings.Settings.{Settings}
 use Rattle.qc_script.specs.declared.settings.Setting.{Setting}
-use Rattle.qc_script.specs.declared.settings.Setting.TheVariants.{Random, Time, Local, Remote, First, Addr, Token, Secret, LimitInitial, LimitHandshake, LimitFailures, Idle}
+use Rattle.qc_script.specs.declared.settings.Setting.TheVariants.{Random, Time, Local, Remote, First, Addr, Token, Secret, LimitInitial, LimitHandshake, LimitFailures, Idle, Gso}
 use Rattle.qc_script.specs.declared.items.Item.{Item}
 use Rattle.qc_script.specs.declared.items.Item.TheVariants as It
-use Rattle.qc_script.specs.Fields.{hex_field, address_text, IsAddress}
+use Rattle.qc_script.specs.Fields.{hex_field, address_text, flag_text, IsAddress}
 use Rattle.qc_script.specs.Script.{random_text, IsRandom, IsId, IsRemote, IsFirst, IsToken, IsSecret, IsWithin, input_line}
 
 -- the line of a setting
@@ -25,6 +25,7 @@ setting_line (LimitInitial packets) = codes "set limit_initial " ++ (decimal pac
 setting_line (LimitHandshake packets) = codes "set limit_handshake " ++ (decimal packets ++ 10 ∷ [])
 setting_line (LimitFailures packets) = codes "set limit_failures " ++ (decimal packets ++ 10 ∷ [])
 setting_line (Idle limit) = codes "set idle " ++ (decimal limit ++ 10 ∷ [])
+setting_line (Gso allowed) = codes "set gso " ++ (flag_text allowed ++ 10 ∷ [])
 
 -- what a setting says lies within its bounds on this side
 abbrev pub IsSetting : Side → Setting → Type 0
@@ -40,6 +41,7 @@ IsSetting side (LimitInitial packets) = packets < 2 ^ 64
 IsSetting side (LimitHandshake packets) = packets < 2 ^ 64
 IsSetting side (LimitFailures packets) = packets < 2 ^ 64
 IsSetting side (Idle limit) = limit < 2 ^ 62
+IsSetting side (Gso allowed) = Unit {0}
 
 -- this text and LF is the line of this setting
 pub record IsNextSetting (side : Side) (text : List ℕ) (setting : Setting) : Type 0 where
@@ -50,6 +52,17 @@ pub record IsNextSetting (side : Side) (text : List ℕ) (setting : Setting) : T
 abbrev pub IsSettingRead : Side → List ℕ → Option Setting → Type 0
 IsSettingRead side text None = (setting : Setting) → IsNextSetting side text setting → ⊥
 IsSettingRead side text (Some setting) = IsNextSetting side text setting
+
+-- a setting of the transport's configuration
+abbrev pub IsOfTransport : Setting → Type 0
+IsOfTransport (Idle limit) = Unit {0}
+IsOfTransport (Gso allowed) = Unit {0}
+IsOfTransport _ = ⊥
+
+-- what a reader of such settings may find of this text: its setting, or nothing where it and LF are the line of none of them
+abbrev pub IsTransportRead : Side → List ℕ → Option Setting → Type 0
+IsTransportRead side text None = (setting : Setting) → IsOfTransport setting → IsNextSetting side text setting → ⊥
+IsTransportRead side text (Some setting) = IsNextSetting side text setting
 
 -- the place of a setting's line in the order of set lines; the side's line has place 0
 abbrev pub setting_place : Setting → ℕ
@@ -65,6 +78,7 @@ setting_place (LimitInitial packets) = 9
 setting_place (LimitHandshake packets) = 10
 setting_place (LimitFailures packets) = 11
 setting_place (Idle limit) = 12
+setting_place (Gso allowed) = 13
 
 -- the settings with this one among them
 abbrev pub with_setting : Settings → Setting → Settings
@@ -80,10 +94,11 @@ with_setting s (LimitInitial packets) = record s { limit_initial = Some packets 
 with_setting s (LimitHandshake packets) = record s { limit_handshake = Some packets }
 with_setting s (LimitFailures packets) = record s { limit_failures = Some packets }
 with_setting s (Idle limit) = record s { idle = Some limit }
+with_setting s (Gso allowed) = record s { gso = Some allowed }
 
 -- what a script says whose one line names this side
 abbrev pub side_alone : Side → Settings
-side_alone side = record { side = side; random = None; time = None; local = None; remote = None; first = None; addr = None; token = None; secret = None; limit_initial = None; limit_handshake = None; limit_failures = None; idle = None }
+side_alone side = record { side = side; random = None; time = None; local = None; remote = None; first = None; addr = None; token = None; secret = None; limit_initial = None; limit_handshake = None; limit_failures = None; idle = None; gso = None }
 
 -- the line of an item
 abbrev pub item_line : Item → List ℕ
@@ -98,7 +113,7 @@ IsItem side (It.Input input) = IsWithin input
 -- the place of an item's line: an input's is that behind all set lines
 abbrev pub item_place : Item → ℕ
 item_place (It.Set setting) = setting_place setting
-item_place (It.Input input) = 13
+item_place (It.Input input) = 14
 
 -- the item's line may follow one of place `before`: a set line follows one of a lesser place, and an input any line
 abbrev pub Follows : (before : ℕ) → Item → Type 0

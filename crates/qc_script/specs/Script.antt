@@ -16,6 +16,7 @@
 --     set limit_handshake N  how many packets a Handshake key may seal (2^23)
 --     set limit_failures N   how many packets may fail to open (2^52; RFC 9001, section 6.6)
 --     set idle N        this end's limit on idle time in milliseconds; 0 is none (30000)
+--     set gso F         whether the datagrams of a transmit may stand behind each other: `0`, a transmit has at most one, or `1` (1)
 -- An input line is
 --     datagram T A E H  a datagram H came at time T from the address A with the mark E of congestion
 --     timeout T         timers may have come at time T
@@ -53,7 +54,7 @@ use Rattle.qc_script.specs.declared.settings.RandomWords.TheVariants.{Zeros, See
 use Rattle.qc_script.specs.declared.settings.Settings.{Settings}
 use Rattle.qc_script.specs.declared.script.ScriptError.{ScriptError}
 use Rattle.qc_script.specs.declared.script.ScriptError.TheVariants.{BadLine, OutOfMemory}
-use Rattle.qc_script.specs.Fields.{hex_field, address_text, dir_text, ecn_text, IsAddress}
+use Rattle.qc_script.specs.Fields.{hex_field, address_text, dir_text, ecn_text, flag_text, IsAddress}
 
 -- a byte in front of these lines; a byte that ends a line is a line of its own
 abbrev pub with_byte : (ends : Bool) → ℕ → List (List ℕ) → List (List ℕ)
@@ -100,7 +101,8 @@ set_lines s =
     ++ (line_if (codes "set limit_initial ") decimal s.limit_initial
     ++ (line_if (codes "set limit_handshake ") decimal s.limit_handshake
     ++ (line_if (codes "set limit_failures ") decimal s.limit_failures
-    ++ line_if (codes "set idle ") decimal s.idle)))))))))))
+    ++ (line_if (codes "set idle ") decimal s.idle
+    ++ line_if (codes "set gso ") flag_text s.gso))))))))))))
 
 -- a seed has 32 bytes
 abbrev pub IsSeed : List ℕ → Type 0
@@ -134,7 +136,7 @@ IsToken Server bytes = ⊥
 abbrev pub IsSecret : List ℕ → Type 0
 IsSecret bytes = IsBytes bytes × (length bytes ≡ 5)
 
--- what the set lines say lies within its bounds
+-- what the set lines say lies within its bounds; a flag has none
 pub record AreSettings (s : Settings) : Type 0 where
   pub random : IfSome s.random IsRandom
   pub time : IfSome s.time (λ n. n < 2 ^ 64)

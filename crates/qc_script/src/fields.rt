@@ -3,11 +3,11 @@
 ghost use Rattle.hex.specs.Hex.{encode_lower, lower_digits};
 ghost use Rattle.qc_base.specs.Grammar.{IsBytes};
 ghost use Rattle.qc_base.specs.declared.side.Dir.{Dir};
-ghost use Rattle.qc_script.specs.Fields.{AreFields, Begins, Lacks, dir_text, hex_field};
+ghost use Rattle.qc_script.specs.Fields.{AreFields, Begins, Lacks, dir_text, flag_text, hex_field};
 ghost use Rattle.std.specs.Bool.{MatchBool, OnFalse, OnTrue};
 ghost use Rattle.std.specs.Fmt.{decimal};
 ghost use Rattle.std.specs.Int.{IsInRange};
-ghost use Rattle.std.specs.Prelude.{◌≡◌, ◌≢◌, ℕ, ◌+◌, ◌-◌, ◌*◌, ◌^◌, ◌<◌, ◌≤◌, List, ◌∷◌, ◌++◌, length, take, slice_index, IfOk, MatchOption, IfSome, IfNone};
+ghost use Rattle.std.specs.Prelude.{◌≡◌, ◌≢◌, Bool, ℕ, ◌+◌, ◌-◌, ◌*◌, ◌^◌, ◌<◌, ◌≤◌, List, ◌∷◌, ◌++◌, length, take, slice_index, IfOk, MatchOption, IfSome, IfNone};
 
 use qc_base::{Dir, VarInt};
 use qc_state::Body;
@@ -73,6 +73,19 @@ pub fn read_dir(field: &[u8]) -> Option<Dir>
     }
     if field == b"uni".as_slice() {
         return Some(Dir::Uni);
+    }
+    None
+}
+
+/// The flag that a field spells: `0` or `1`.
+pub fn read_flag(field: &[u8]) -> Option<bool>
+    ensures { MatchOption result ((flag : Bool) → field.now ≢ flag_text flag) (λ flag. field.now ≡ flag_text flag) }
+{
+    if field == b"0".as_slice() {
+        return Some(false);
+    }
+    if field == b"1".as_slice() {
+        return Some(true);
     }
     None
 }

@@ -1,13 +1,13 @@
 //! The set lines.
 
 ghost use Rattle.qc_script.specs.Fields.{hex_field};
-ghost use Rattle.qc_script.specs.Items.{IsSettingRead};
+ghost use Rattle.qc_script.specs.Items.{IsSettingRead, IsTransportRead};
 ghost use Rattle.qc_script.specs.Script.{random_text, IsRandom, IsSeed, IsId, IsSecret, side_line};
 ghost use Rattle.qc_script.specs.declared.settings.RandomWords.{RandomWords};
 ghost use Rattle.std.specs.Prelude.{◌≡◌, ◌≢◌, ℕ, List, ◌++◌, codes, IfOk, MatchOption};
 
 use crate::address::read_address;
-use crate::fields::{after_word, read_code, read_hex, read_number};
+use crate::fields::{after_word, read_code, read_flag, read_hex, read_number};
 use crate::settings::{RandomWords, Setting};
 use qc_base::{ConnectionId, Instant, Side};
 use std::alloc::{AllocError, Global};
@@ -218,6 +218,29 @@ fn idle_line(digits: &[u8]) -> Option<Setting>
     }
 }
 
+/// What a line sets that says whether the datagrams of a transmit may stand behind each other.
+fn gso_line(field: &[u8]) -> Option<Setting>
+    ensures { (side : Side) → IsSettingRead side (codes "set gso " ++ field.now) result }
+{
+    match read_flag(field) {
+        Some(allowed) => Some(Setting::Gso(allowed)),
+        None => None,
+    }
+}
+
+/// What this line, LF excluded, sets of the transport's configuration.
+fn transport_line(text: &[u8]) -> Option<Setting>
+    ensures { (side : Side) → IsTransportRead side text.now result }
+{
+    if let Some(digits) = after_word(text, b"set idle ") {
+        return idle_line(digits);
+    }
+    match after_word(text, b"set gso ") {
+        Some(field) => gso_line(field),
+        None => None,
+    }
+}
+
 /// What this line, LF excluded, sets on this side.
 pub fn read_setting(alloc: Global, side: Side, text: &[u8]) -> Result<Option<Setting>, AllocError>
     ensures { IfOk result (IsSettingRead side text.now) }
@@ -255,8 +278,5 @@ pub fn read_setting(alloc: Global, side: Side, text: &[u8]) -> Result<Option<Set
     if let Some(digits) = after_word(text, b"set limit_failures ") {
         return Ok(limit_failures_line(digits));
     }
-    match after_word(text, b"set idle ") {
-        Some(digits) => Ok(idle_line(digits)),
-        None => Ok(None),
-    }
+    Ok(transport_line(text))
 }

@@ -45,6 +45,8 @@ pub struct Settings {
     pub limit_failures: Option<u64>,
     /// This end's limit on idle time in milliseconds; 0 is none (RFC 9000, 10.1).
     pub idle: Option<VarInt>,
+    /// Whether the datagrams of a transmit may stand behind each other; where they may not, a transmit has at most one.
+    pub gso: Option<bool>,
 }
 
 /// What one set line behind the first says.
@@ -74,6 +76,8 @@ pub enum Setting {
     LimitFailures(u64),
     /// This end's limit on idle time in milliseconds.
     Idle(VarInt),
+    /// What `Settings::gso` is.
+    Gso(bool),
 }
 
 impl Setting {
@@ -94,6 +98,7 @@ impl Setting {
             Setting::LimitHandshake(_) => 10,
             Setting::LimitFailures(_) => 11,
             Setting::Idle(_) => 12,
+            Setting::Gso(_) => 13,
         }
     }
 }
@@ -117,6 +122,7 @@ impl Settings {
             limit_handshake: None,
             limit_failures: None,
             idle: None,
+            gso: None,
         }
     }
 
@@ -137,6 +143,7 @@ impl Settings {
             Setting::LimitHandshake(packets) => self.limit_handshake = Some(packets),
             Setting::LimitFailures(packets) => self.limit_failures = Some(packets),
             Setting::Idle(limit) => self.idle = Some(limit),
+            Setting::Gso(allowed) => self.gso = Some(allowed),
         }
     }
 }

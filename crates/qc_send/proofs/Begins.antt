@@ -8,16 +8,20 @@ use Rattle.qc_header.specs.declared.header.Header.{Header}
 use Rattle.qc_header.specs.HeaderSpelling.{header_spelling}
 use Rattle.qc_state.specs.declared.form.Form.{Form}
 use Rattle.qc_state.specs.declared.form.Form.TheVariants as form
-use Rattle.qc_state.specs.declared.transmit.TheConstants.{DATAGRAM_SIZE}
+use Rattle.qc_state.specs.declared.transmit.Batch.{Batch}
+use Rattle.qc_state.specs.declared.transmit.TheConstants.{DATAGRAM_SIZE, JOINING_SIZE}
+use Rattle.qc_send.specs.Joining.{IsBegun, IsRoomy}
+use Rattle.qc_send.proofs.Sizes.{begun_room}
+use Rattle.qc_state.proofs.Batches.{joins_some}
 use Rattle.qc_state.specs.declared.keys.KeyGroup.{KeyGroup}
 use Rattle.qc_state.specs.Forms.{number_space}
 use Rattle.qc_state.specs.Keys.{has_keys_for, reaches_limit, usage_of}
 use Rattle.qc_state.specs.Moves.{Begin, Skip, Take, state_move, move_to, numbers_move, keys_move, paths_move, setup_move, deeds_move}
 use Rattle.qc_state.specs.Numbers.{next_number, acked_number, coming_number, is_skipped, number_skipped, used_in}
 use Rattle.qc_state.specs.declared.numbers.Numbers.{Numbers}
-use Rattle.qc_state.specs.Sending.{is_past_limit, is_used_up, is_key_used_up, is_token_too_long, header_in, room_of, skipped_after, begun_after, MayBegin}
+use Rattle.qc_state.specs.Sending.{is_past_limit, is_used_up, is_key_used_up, is_token_too_long, header_in, room_of, skipped_after, begun_after, begun_batch, MayBegin, MayStand}
 use Rattle.qc_state.specs.Spaces.{is_space}
-use Rattle.qc_state.specs.Types.{Types}
+use Rattle.qc_state.specs.Types.{Types, Meaning}
 use Rattle.qc_state.specs.View.{View, At, at}
 use Rattle.qc_state.proofs.Transmitted.{begins_keyed, unlimited}
 use Rattle.qc_send.proofs.Takes.{number_kept}
@@ -71,24 +75,39 @@ module _ {t : Types} where
   unfolding begun_after skipped_after is_skipped move_to state_move numbers_move paths_move setup_move
   initial_header opens s = refl
 
-  initial_wide : (opens : Bool) (capacity : ℕ) (s : View t) → DATAGRAM_SIZE ≤ capacity → nat_lt (room_of DATAGRAM_SIZE s form.Initial) 25 ≡ false → 25 ≤ room_of capacity (begun_after Initial opens (at s [])).state form.Initial
+  initial_wide : (opens : Bool) (left : ℕ) (s : View t) → DATAGRAM_SIZE ≤ left → nat_lt (room_of DATAGRAM_SIZE s form.Initial) 25 ≡ false → 25 ≤ room_of left (begun_after Initial opens (at s [])).state form.Initial
   unfolding room_of
-  initial_wide opens capacity s large long = subst (λ (x : Header). 25 ≤ capacity - 16 - length (header_spelling x 0)) (sym (initial_header opens s)) (grind (arith, nat_tests))
+  initial_wide opens left s large long = subst (λ (x : Header). 25 ≤ left - 16 - length (header_spelling x 0)) (sym (initial_header opens s)) (grind (arith, nat_tests))
 
-  wide_by : (opens : Bool) (capacity : ℕ) (s : View t) (f : Form) → DATAGRAM_SIZE ≤ capacity → (is_space (number_space f) Initial && nat_lt (room_of DATAGRAM_SIZE s form.Initial) 25) ≡ false →
-      (is_space (number_space f) Initial ≡ false → 25 ≤ room_of capacity (begun_after (number_space f) opens (at s [])).state f) → 25 ≤ room_of capacity (begun_after (number_space f) opens (at s [])).state f
-  wide_by opens capacity s form.Initial large long others = initial_wide opens capacity s large long
-  wide_by opens capacity s form.Handshake large long others = others refl
-  wide_by opens capacity s form.Early large long others = others refl
-  wide_by opens capacity s form.OneRtt large long others = others refl
+  wide_by : (opens : Bool) (left : ℕ) (s : View t) (f : Form) → (is_space (number_space f) Initial ≡ true → DATAGRAM_SIZE ≤ left) → (is_space (number_space f) Initial && nat_lt (room_of DATAGRAM_SIZE s form.Initial) 25) ≡ false →
+      (is_space (number_space f) Initial ≡ false → 25 ≤ room_of left (begun_after (number_space f) opens (at s [])).state f) → 25 ≤ room_of left (begun_after (number_space f) opens (at s [])).state f
+  wide_by opens left s form.Initial large long others = initial_wide opens left s (large refl) long
+  wide_by opens left s form.Handshake large long others = others refl
+  wide_by opens left s form.Early large long others = others refl
+  wide_by opens left s form.OneRtt large long others = others refl
 
-  pub room_wide : (opens closing : Bool) (capacity : ℕ) (a : At t) (e : View t) (form : Form) → DATAGRAM_SIZE ≤ capacity → MayBegin closing a.state form → at e a.did ≡ begun_after (number_space form) opens a →
-      (is_space (number_space form) Initial ≡ false → 25 ≤ room_of capacity e form) → 25 ≤ room_of capacity e form
+  -- what a packet finds that was begun, in numbers
+  pub begun_is : (opens : Bool) (m : Meaning t) (time : ℕ) (s : View t) (batch b : Batch) (form : Form) → MayBegin m time s batch form opens → IsRoomy batch (number_space form) opens → b ≡ begun_batch s (number_space form) opens batch → IsBegun b (number_space form)
+  unfolding begun_batch
+  begun_is opens m time s batch b form may roomy is =
+      subst (λ (x : Batch). IsBegun x (number_space form)) (sym is) (begun_room batch (number_space form) opens _ roomy (joined opens may.place))
+    where
+      joined : (o : Bool) → MayStand m time s batch (number_space form) o → o ≡ false → 0 < batch.made
+      joined true place e = cc
+      joined false place e = joins_some batch place
+
+  -- there is room for a close in it
+  pub loud_wide : (opens : Bool) (m : Meaning t) (time left room : ℕ) (batch b : Batch) (a : At t) (e : View t) (form : Form) → MayBegin m time a.state batch form opens → IsRoomy batch (number_space form) opens →
+      at e a.did ≡ begun_after (number_space form) opens a → b ≡ begun_batch a.state (number_space form) opens batch → left ≡ b.capacity - b.filled → room ≡ room_of left e form →
+      (is_space (number_space form) Initial ≡ false → JOINING_SIZE ≤ left → 25 ≤ room) → 25 ≤ room
   unfolding is_token_too_long
-  room_wide opens closing capacity a e form large may begun others =
+  loud_wide opens m time left room batch b a e form may roomy begun is_b is_left is_room others =
       let is_e : e ≡ (begun_after (number_space form) opens (at a.state [])).state = begun_state opens a e (number_space form) begun in
-      subst (λ (v : View t). 25 ≤ room_of capacity v form) (sym is_e)
-      (wide_by opens capacity a.state form large (unlimited a.state form may.fresh).2 (λ other. subst (λ (v : View t). 25 ≤ room_of capacity v form) is_e (others other)))
+      let sizes : IsBegun b (number_space form) = begun_is opens m time a.state batch b form may roomy is_b in
+      let same : room ≡ room_of left (begun_after (number_space form) opens (at a.state [])).state form = is_room ∙ ap (λ (v : View t). room_of left v form) is_e in
+      subst (λ (n : ℕ). 25 ≤ n) (sym same)
+      (wide_by opens left a.state form (λ first. subst (λ (n : ℕ). DATAGRAM_SIZE ≤ n) (sym is_left) (sizes.large first)) (unlimited a.state form may.fresh).2
+      (λ other. subst (λ (n : ℕ). 25 ≤ n) same (others other (subst (λ (n : ℕ). JOINING_SIZE ≤ n) (sym is_left) sizes.left))))
 
   -- once a datagram is begun, the next number is the one that was to come
   skip_number : (id : SpaceId) (a : At t) (b : Bool) → is_skipped a.state.numbers id ≡ b → next_number (if b then move_to Skip a else a).state.numbers id ≡ (if b then next_number a.state.numbers id + 1 else next_number a.state.numbers id)
@@ -115,24 +134,24 @@ module _ {t : Types} where
   begun_acked opens s id = skip_acked id (at (state_move (Begin id opens) s) []) (is_skipped s.numbers id) refl
 
   -- where a packet may be sealed, its number is near the greatest acknowledged one once a datagram is begun for it
-  pub loud_near_begun : (opens closing : Bool) (a : At t) (e : View t) (form : Form) → MayBegin closing a.state form → at e a.did ≡ begun_after (number_space form) opens a → next_number e.numbers (number_space form) - acked_number e.numbers (number_space form) < 2 ^ 31
+  pub loud_near_begun : (opens : Bool) (m : Meaning t) (time : ℕ) (batch : Batch) (a : At t) (e : View t) (form : Form) → MayBegin m time a.state batch form opens → at e a.did ≡ begun_after (number_space form) opens a → next_number e.numbers (number_space form) - acked_number e.numbers (number_space form) < 2 ^ 31
   unfolding is_used_up
-  loud_near_begun opens closing a e form may begun =
+  loud_near_begun opens m time batch a e form may begun =
       let s : View t = a.state in
       let near : coming_number s.numbers (number_space form) - acked_number s.numbers (number_space form) < 2 ^ 31 = number_near (coming_number s.numbers (number_space form)) (acked_number s.numbers (number_space form)) (unlimited s form may.fresh).1 in
       subst (λ (v : View t). next_number v.numbers (number_space form) - acked_number v.numbers (number_space form) < 2 ^ 31) (sym (begun_state opens a e (number_space form) begun)) (omega (arith, near, begun_number opens s (number_space form), begun_acked opens s (number_space form)))
 
   -- so it is once frames were taken
-  pub loud_near : (opens closing : Bool) (a : At t) (e mid : View t) (form : Form) (fs : List FrameValue) → MayBegin closing a.state form → at e a.did ≡ begun_after (number_space form) opens a → mid ≡ state_move (Take (number_space form) fs) e →
+  pub loud_near : (opens : Bool) (m : Meaning t) (time : ℕ) (batch : Batch) (a : At t) (e mid : View t) (form : Form) (fs : List FrameValue) → MayBegin m time a.state batch form opens → at e a.did ≡ begun_after (number_space form) opens a → mid ≡ state_move (Take (number_space form) fs) e →
       next_number mid.numbers (number_space form) - acked_number mid.numbers (number_space form) < 2 ^ 31
-  loud_near opens closing a e mid form fs may begun is_mid =
-      subst (λ (v : Numbers). next_number v (number_space form) - acked_number v (number_space form) < 2 ^ 31) (sym (ap (λ (x : View t). x.numbers) is_mid ∙ number_kept e form fs)) (loud_near_begun opens closing a e form may begun)
+  loud_near opens m time batch a e mid form fs may begun is_mid =
+      subst (λ (v : Numbers). next_number v (number_space form) - acked_number v (number_space form) < 2 ^ 31) (sym (ap (λ (x : View t). x.numbers) is_mid ∙ number_kept e form fs)) (loud_near_begun opens m time batch a e form may begun)
 
   -- and it is below the greatest of all
-  pub loud_low : (opens closing : Bool) (a : At t) (e mid : View t) (form : Form) (fs : List FrameValue) → MayBegin closing a.state form → at e a.did ≡ begun_after (number_space form) opens a → mid ≡ state_move (Take (number_space form) fs) e →
+  pub loud_low : (opens : Bool) (m : Meaning t) (time : ℕ) (batch : Batch) (a : At t) (e mid : View t) (form : Form) (fs : List FrameValue) → MayBegin m time a.state batch form opens → at e a.did ≡ begun_after (number_space form) opens a → mid ≡ state_move (Take (number_space form) fs) e →
       next_number mid.numbers (number_space form) < 2 ^ 62 - 1
   unfolding is_used_up
-  loud_low opens closing a e mid form fs may begun is_mid =
+  loud_low opens m time batch a e mid form fs may begun is_mid =
       let s : View t = a.state in
       let low : coming_number s.numbers (number_space form) < 2 ^ 62 - 1 = number_low (coming_number s.numbers (number_space form)) (acked_number s.numbers (number_space form)) (unlimited s form may.fresh).1 in
       let same : next_number mid.numbers (number_space form) ≡ coming_number s.numbers (number_space form) =
@@ -153,14 +172,14 @@ module _ {t : Types} where
       ap (λ (x : View t). x.keys) is_mid ∙ taken_keys e space fs ∙ ap (λ (x : View t). x.keys) (begun_state opens a e space begun) ∙ begun_keys opens a.state space
 
   -- and there are keys for it
-  pub loud_keyed : (opens closing : Bool) (a : At t) (e mid : View t) (form : Form) (fs : List FrameValue) → MayBegin closing a.state form → at e a.did ≡ begun_after (number_space form) opens a → mid ≡ state_move (Take (number_space form) fs) e →
+  pub loud_keyed : (opens : Bool) (m : Meaning t) (time : ℕ) (batch : Batch) (a : At t) (e mid : View t) (form : Form) (fs : List FrameValue) → MayBegin m time a.state batch form opens → at e a.did ≡ begun_after (number_space form) opens a → mid ≡ state_move (Take (number_space form) fs) e →
       has_keys_for mid.keys form ≡ true
-  loud_keyed opens closing a e mid form fs may begun is_mid =
-      ap (λ (k : KeyGroup t.H t.P). has_keys_for k form) (same_keys opens a e mid (number_space form) fs begun is_mid) ∙ begins_keyed closing a.state form may
+  loud_keyed opens m time batch a e mid form fs may begun is_mid =
+      ap (λ (k : KeyGroup t.H t.P). has_keys_for k form) (same_keys opens a e mid (number_space form) fs begun is_mid) ∙ begins_keyed m time a.state batch form opens may
 
   -- of which its key may seal one packet more
-  pub loud_fresh : (opens closing : Bool) (a : At t) (e mid : View t) (form : Form) (fs : List FrameValue) → MayBegin closing a.state form → at e a.did ≡ begun_after (number_space form) opens a → mid ≡ state_move (Take (number_space form) fs) e →
+  pub loud_fresh : (opens : Bool) (m : Meaning t) (time : ℕ) (batch : Batch) (a : At t) (e mid : View t) (form : Form) (fs : List FrameValue) → MayBegin m time a.state batch form opens → at e a.did ≡ begun_after (number_space form) opens a → mid ≡ state_move (Take (number_space form) fs) e →
       reaches_limit 0 (usage_of mid.keys form) ≡ false
   unfolding is_key_used_up
-  loud_fresh opens closing a e mid form fs may begun is_mid =
+  loud_fresh opens m time batch a e mid form fs may begun is_mid =
       ap (λ (k : KeyGroup t.H t.P). reaches_limit 0 (usage_of k form)) (same_keys opens a e mid (number_space form) fs begun is_mid) ∙ (unlimited a.state form may.fresh).0

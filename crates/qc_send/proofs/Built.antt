@@ -81,6 +81,25 @@ long_size : (capacity : ℕ) (h : Header) → capacity ≤ 16383 → is_short h 
 unfolding max_size_of
 long_size capacity h most long = long_by capacity (is_short h) _ most long
 
+-- so it is of any packet
+pub most_size : (left : ℕ) (h : Header) → left ≤ 16383 → max_size_of 0 h left ≡ left - 16
+unfolding max_size_of
+most_size left h few = by_form (is_short h) _
+  where
+    by_form : (b : Bool) (n : ℕ) → (if b then left - 16 else min (left - 16) (n + 16367)) ≡ left - 16
+    by_form true n = refl
+    by_form false n = omega (arith, few)
+
+-- and it has the room for its sample, for its frames, and for what is asked of it
+pub sample_fits : (left : ℕ) (h : Header) → left ≤ 16383 → min_size_of 0 h + 16 ≤ left → min_size_of 0 h ≤ max_size_of 0 h left
+sample_fits left h few room = omega (arith, most_size left h few, room)
+
+pub frames_fit : (left bytes : ℕ) (h : Header) → left ≤ 16383 → length (header_spelling h 0) + bytes + 16 ≤ left → length (header_spelling h 0) + bytes ≤ max_size_of 0 h left
+frames_fit left bytes h few room = omega (arith, most_size left h few, room)
+
+pub asked_fits : (left least : ℕ) (h : Header) → left ≤ 16383 → min_size_of 0 h + 16 ≤ left → least ≤ left → least ≤ max_size_of 0 h left + 16
+asked_fits left least h few room small = omega (arith, most_size left h few, room, small)
+
 -- a packet whose header leaves room for 25 bytes needs no more than a datagram has
 least_fits : (capacity : ℕ) (h : Header) → length (header_spelling h 0) + 41 ≤ capacity → length (dst_cid_of h) ≤ length (header_spelling h 0) → min_size_of 0 h + 16 ≤ capacity
 unfolding min_size_of

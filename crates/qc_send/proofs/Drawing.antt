@@ -24,13 +24,14 @@ use Rattle.qc_state.specs.Recovering.{around_of, is_validated_by_peer, probe_tim
 use Rattle.qc_state.specs.declared.keys.KeyUse.{KeyUse}
 use Rattle.qc_state.specs.Keys.{has_keys_for, header_key, packet_key, reaches_limit, usage_of}
 use Rattle.qc_state.specs.Numbers.{acked_number, next_number}
-use Rattle.qc_state.specs.Sending.{flips_now, room_of, header_in, is_flown, least_size, packet_bytes, packet_size, padded, padding_of, sealed_with, slot_with, spin_now}
+use Rattle.qc_state.specs.Sending.{flips_now, room_of, header_in, fills_up, is_flown, packet_bytes, packet_size, sealed_with, slot_with, spin_now}
 use Rattle.qc_state.specs.Setup.{behind_spin, ideal_setup, idle_limit_now, packet_drawn, takes_grease}
 use Rattle.qc_state.specs.declared.setup.Setup.{Setup}
 use Rattle.qc_state.specs.Types.{Types, Meaning}
 use Rattle.qc_state.specs.View.{Held, View, At, at, ideal}
 use Rattle.qc_send.proofs.Built.{fresh_use, keyed_header, keyed_packet, keyed_usage, least_wide, no_kill}
-use Rattle.qc_send.proofs.Fits.{padded_size_is}
+use Rattle.qc_send.proofs.Padded.{padded_size_is, padding_is, plain_is}
+use Rattle.qc_send.specs.Filling.{padded_to, padding_to, size_to}
 
 -- a number has a byte at least
 one_of : (n m : ℕ) (a b c : Bool) → 1 ≤ length (if a then spelled one n else if b then spelled two n else if c then spelled four n else spelled eight m)
@@ -152,43 +153,68 @@ module _ {t : Types} where
   pub sized_still : (capacity : ℕ) (s : View t) (form : Form) (h : Header) → h ≡ header_in s form → 25 ≤ room_of capacity s form → min_size_of 0 h + 16 ≤ capacity
   sized_still capacity s form h is_h wide = subst (λ (x : Header). min_size_of 0 x + 16 ≤ capacity) (sym is_h) (least_wide capacity s form wide)
 
-  -- the frames have the PADDING that they need
-  pub filled : (s : View t) (form : Form) (h : Header) (least : ℕ) (fs gs : List FrameValue) → h ≡ header_in s form → least ≡ least_size s form fs → gs ≡ fs ++ replicate (padding_len h fs (padded_size h fs least)) Padding → gs ≡ padded s form fs
-  unfolding padded padding_of
-  filled s form h least fs gs is_h is_least is_gs =
-      is_gs ∙ ap (λ (x : Header). fs ++ replicate (padding_len x fs (padded_size x fs least)) Padding) is_h
-      ∙ ap (λ (n : ℕ). fs ++ replicate (padding_len (header_in s form) fs (padded_size (header_in s form) fs n)) Padding) is_least
+  -- and its frames have room behind it
+  pub room_still : (left room : ℕ) (s : View t) (form : Form) (h : Header) (fs : List FrameValue) → h ≡ header_in s form → room ≡ room_of left s form → 25 ≤ room → length (frames_spelling fs) ≤ room →
+      length (header_spelling h 0) + length (frames_spelling fs) + 16 ≤ left
+  unfolding room_of
+  room_still left room s form h fs is_h is_room wide fits =
+      let len : length (header_spelling h 0) ≡ length (header_spelling (header_in s form) 0) = ap (λ (x : Header). length (header_spelling x 0)) is_h in
+      omega (arith, len, is_room, wide, fits)
 
-  -- the packet has as many bytes as it is to have
-  pub sized : (s : View t) (form : Form) (h : Header) (least n : ℕ) (fs : List FrameValue) → h ≡ header_in s form → least ≡ least_size s form fs → n ≡ padded_size h fs least → n ≡ packet_size s form (padded s form fs)
-  sized s form h least n fs is_h is_least is_n = is_n ∙ ap (λ (x : ℕ). padded_size h fs x) is_least ∙ padded_size_is s form h fs is_h
+  -- the frames have the PADDING that they need
+  pub filled : (s : View t) (form : Form) (h : Header) (least : ℕ) (fs gs : List FrameValue) → h ≡ header_in s form → gs ≡ fs ++ replicate (padding_len h fs (padded_size h fs least)) Padding → gs ≡ padded_to s form least fs
+  unfolding padded_to padding_to
+  filled s form h least fs gs is_h is_gs = is_gs ∙ ap (λ (x : Header). fs ++ replicate (padding_len x fs (padded_size x fs least)) Padding) is_h
+
+  -- the packet has as many bytes as it is to have, behind those before it
+  pub sized : (s : View t) (form : Form) (h : Header) (least n start : ℕ) (fs : List FrameValue) → h ≡ header_in s form → n ≡ start + padded_size h fs least → n ≡ start + packet_size s form (padded_to s form least fs)
+  unfolding size_to
+  sized s form h least n start fs is_h is_n =
+      is_n ∙ ap (λ (x : Header). start + padded_size x fs least) is_h ∙ ap (λ (x : ℕ). start + x) (sym (padded_size_is s form least fs))
+
+  -- how many bytes that is, and how many of them are PADDING, by the buffer's lengths
+  pub size_by : (s : View t) (form : Form) (h : Header) (least n start size : ℕ) (fs : List FrameValue) → h ≡ header_in s form → n ≡ start + padded_size h fs least → size ≡ n - start → size ≡ packet_size s form (padded_to s form least fs)
+  size_by s form h least n start size fs is_h is_n is = omega (arith, sized s form h least n start fs is_h is_n, is)
+
+  pub padding_by : (s : View t) (form : Form) (h : Header) (least left room n start size plain padding : ℕ) (fs : List FrameValue) → h ≡ header_in s form → room ≡ room_of left s form → 25 ≤ room →
+      n ≡ start + padded_size h fs least → size ≡ n - start → plain ≡ left - room + length (frames_spelling fs) → padding ≡ size - plain → padding ≡ padding_to s form least fs
+  padding_by s form h least left room n start size plain padding fs is_h is_room wide is_n is_size is_plain is =
+      let whole : size ≡ packet_size s form (padded_to s form least fs) = size_by s form h least n start size fs is_h is_n is_size in
+      omega (arith, is, whole, padded_size_is s form least fs, padding_is s form least fs, plain_is left room s form plain fs is_room wide is_plain)
 
   -- these are its bytes
-  pub spelled_by : (m : Meaning t) (s s' : View t) (form : Form) (h : Header) (flip : Bool) (least : ℕ) (fs gs : List FrameValue) (buffer : List ℕ) → s' ≡ drawn_for form s → h ≡ header_in s form → flip ≡ flips_now s form →
-      least ≡ least_size s form fs → gs ≡ fs ++ replicate (padding_len h fs (padded_size h fs least)) Padding →
-      buffer ≡ sealed_with m (header_key s'.keys form) (packet_key s'.keys form) flip h (next_number s'.numbers (number_space form)) (frames_spelling gs) → buffer ≡ packet_bytes m s form (padded s form fs)
+  pub spelled_by : (m : Meaning t) (s s' : View t) (form : Form) (h : Header) (flip : Bool) (least : ℕ) (fs gs : List FrameValue) (old buffer : List ℕ) → s' ≡ drawn_for form s → h ≡ header_in s form → flip ≡ flips_now s form →
+      gs ≡ fs ++ replicate (padding_len h fs (padded_size h fs least)) Padding →
+      buffer ≡ old ++ sealed_with m (header_key s'.keys form) (packet_key s'.keys form) flip h (next_number s'.numbers (number_space form)) (frames_spelling gs) → buffer ≡ old ++ packet_bytes m s form (padded_to s form least fs)
   unfolding packet_bytes drawn_for
-  spelled_by m s s' form h flip least fs gs buffer is_s is_h is_flip is_least is_gs is =
-      is ∙ ap (λ (v : View t). sealed_with m (header_key v.keys form) (packet_key v.keys form) flip h (next_number v.numbers (number_space form)) (frames_spelling gs)) is_s
-      ∙ ap (λ (b : Bool). sealed_with m (header_key s.keys form) (packet_key s.keys form) b h (next_number s.numbers (number_space form)) (frames_spelling gs)) is_flip
-      ∙ ap (λ (x : Header). sealed_with m (header_key s.keys form) (packet_key s.keys form) (flips_now s form) x (next_number s.numbers (number_space form)) (frames_spelling gs)) is_h
-      ∙ ap (λ (xs : List FrameValue). sealed_with m (header_key s.keys form) (packet_key s.keys form) (flips_now s form) (header_in s form) (next_number s.numbers (number_space form)) (frames_spelling xs)) (filled s form h least fs gs is_h is_least is_gs)
+  spelled_by m s s' form h flip least fs gs old buffer is_s is_h is_flip is_gs is =
+      is ∙ ap (λ (v : View t). old ++ sealed_with m (header_key v.keys form) (packet_key v.keys form) flip h (next_number v.numbers (number_space form)) (frames_spelling gs)) is_s
+      ∙ ap (λ (b : Bool). old ++ sealed_with m (header_key s.keys form) (packet_key s.keys form) b h (next_number s.numbers (number_space form)) (frames_spelling gs)) is_flip
+      ∙ ap (λ (x : Header). old ++ sealed_with m (header_key s.keys form) (packet_key s.keys form) (flips_now s form) x (next_number s.numbers (number_space form)) (frames_spelling gs)) is_h
+      ∙ ap (λ (xs : List FrameValue). old ++ sealed_with m (header_key s.keys form) (packet_key s.keys form) (flips_now s form) (header_in s form) (next_number s.numbers (number_space form)) (frames_spelling xs)) (filled s form h least fs gs is_h is_gs)
 
   -- whether it counts as in flight
-  pub flies_by : (s s' : View t) (form : Form) (h : Header) (least : ℕ) (fs gs : List FrameValue) (counts : Bool) → s' ≡ drawn_for form s → h ≡ header_in s form → least ≡ least_size s form fs →
-      gs ≡ fs ++ replicate (padding_len h fs (padded_size h fs least)) Padding → counts ≡ is_flown s' gs → counts ≡ is_flown s (padded s form fs)
+  pub flies_by : (s s' : View t) (form : Form) (h : Header) (least : ℕ) (fs gs : List FrameValue) (counts : Bool) → s' ≡ drawn_for form s → h ≡ header_in s form →
+      gs ≡ fs ++ replicate (padding_len h fs (padded_size h fs least)) Padding → counts ≡ is_flown s' gs → counts ≡ is_flown s (padded_to s form least fs)
   unfolding is_flown drawn_for
-  flies_by s s' form h least fs gs counts is_s is_h is_least is_gs is =
-      is ∙ ap (λ (v : View t). is_flown v gs) is_s ∙ ap (λ (xs : List FrameValue). is_flown s xs) (filled s form h least fs gs is_h is_least is_gs)
+  flies_by s s' form h least fs gs counts is_s is_h is_gs is =
+      is ∙ ap (λ (v : View t). is_flown v gs) is_s ∙ ap (λ (xs : List FrameValue). is_flown s xs) (filled s form h least fs gs is_h is_gs)
 
-  -- and sealing it is its move
-  pub moved_by : (s s' : View t) (ds : List Did) (time : ℕ) (form : Form) (h : Header) (number size least len : ℕ) (fs gs : List FrameValue) (b : At t) → s' ≡ drawn_for form s → h ≡ header_in s form → number ≡ next_number s.numbers (number_space form) →
-      least ≡ least_size s form fs → gs ≡ fs ++ replicate (padding_len h fs (padded_size h fs least)) Padding → size ≡ len → b ≡ sealed_drawn time form number size gs (at s' ds) →
-      b ≡ move_to (Seal time form (next_number s.numbers (number_space form)) len (padded s form fs)) (at s ds)
-  moved_by s s' ds time form h number size least len fs gs b is_s is_h is_number is_least is_gs is_size is =
+  -- and whether it fills up its datagram
+  pub fills_by : (s s' : View t) (form : Form) (h : Header) (least : ℕ) (fs gs : List FrameValue) (fills : Bool) → s' ≡ drawn_for form s → h ≡ header_in s form →
+      gs ≡ fs ++ replicate (padding_len h fs (padded_size h fs least)) Padding → fills ≡ fills_up s' form gs → fills ≡ fills_up s form (padded_to s form least fs)
+  unfolding fills_up drawn_for packet_drawn
+  fills_by s s' form h least fs gs fills is_s is_h is_gs is =
+      is ∙ ap (λ (v : View t). fills_up v form gs) is_s ∙ ap (λ (xs : List FrameValue). fills_up s form xs) (filled s form h least fs gs is_h is_gs)
+
+  -- sealing it is its move
+  pub moved_by : (s s' : View t) (ds : List Did) (time : ℕ) (form : Form) (h : Header) (number size least : ℕ) (fs gs : List FrameValue) (b : At t) → s' ≡ drawn_for form s → h ≡ header_in s form → number ≡ next_number s.numbers (number_space form) →
+      gs ≡ fs ++ replicate (padding_len h fs (padded_size h fs least)) Padding → size ≡ packet_size s form (padded_to s form least fs) → b ≡ sealed_drawn time form number size gs (at s' ds) →
+      b ≡ move_to (Seal time form (next_number s.numbers (number_space form)) (packet_size s form (padded_to s form least fs)) (padded_to s form least fs)) (at s ds)
+  moved_by s s' ds time form h number size least fs gs b is_s is_h is_number is_gs is_size is =
       seals_drawn time form number size gs s s' ds b is_s is ∙ ap (λ (n : ℕ). move_to (Seal time form n size gs) (at s ds)) is_number
       ∙ ap (λ (n : ℕ). move_to (Seal time form (next_number s.numbers (number_space form)) n gs) (at s ds)) is_size
-      ∙ ap (λ (xs : List FrameValue). move_to (Seal time form (next_number s.numbers (number_space form)) len xs) (at s ds)) (filled s form h least fs gs is_h is_least is_gs)
+      ∙ ap (λ (xs : List FrameValue). move_to (Seal time form (next_number s.numbers (number_space form)) (packet_size s form (padded_to s form least fs)) xs) (at s ds)) (filled s form h least fs gs is_h is_gs)
 
 module _ {t : Types} {R : Type 0} (stream : R → Stream) where
   -- what is drawn for a packet was drawn

@@ -1,67 +1,26 @@
 -- How many bytes the frames that are taken have, and the packet with them.
-use Rattle.std.proofs.Common.{◌≡◌, ℕ, ◌+◌, ◌-◌, ◌≤◌, List, [], ◌∷◌, ◌++◌, length, length-append, replicate, refl, ap, ◌∙◌, Bool, true, false, if◌then◌else◌, Option, Some, None, arith}
+use Rattle.std.proofs.Common.{◌≡◌, ℕ, ◌+◌, ◌-◌, ◌≤◌, List, [], ◌∷◌, length, length-append, ap, ◌∙◌, Bool, true, false, if◌then◌else◌, Option, Some, None, arith}
 use Rattle.std.specs.Prelude.{unwrap_or}
-use Rattle.std.proofs.lemmas.List.{length-replicate}
-use Rattle.std.specs.List.{list_any}
 use Rattle.qc_base.specs.declared.side.SpaceId.{SpaceId}
 use Rattle.qc_base.specs.declared.side.SpaceId.TheVariants.{Initial, Handshake, «Data»}
 use Rattle.qc_frame.specs.Frame.{FrameValue}
-use Rattle.qc_frame.specs.FrameSpelling.{elicits, spelling, frames_spelling}
+use Rattle.qc_frame.specs.FrameSpelling.{spelling, frames_spelling}
 use Rattle.qc_frame.specs.declared.frames.FrameOf.TheVariants.{Padding}
 use Rattle.qc_frame.specs.declared.frames.FrameOf.TheVariants as frames
 use Rattle.qc_frame.specs.Sizes.{IsLongestReason}
-use Rattle.qc_frame.proofs.Padded.{zeros}
 use Rattle.qc_frame.proofs.Lengths.{varint_size_max, length_type, length-connection_close, length-application_close}
 use Rattle.qc_state.specs.declared.form.Form.{Form}
 use Rattle.qc_state.specs.Acks.{may_acknowledge}
-use Rattle.qc_state.specs.Forms.{number_space}
 use Rattle.qc_state.specs.Life.{is_closed}
 use Rattle.qc_state.specs.declared.life.Close.{Close}
 use Rattle.qc_state.specs.declared.life.Close.TheVariants.{Connection, Application}
-use Rattle.qc_header.specs.declared.header.Header.{Header}
 use Rattle.qc_header.specs.HeaderSpelling.{header_spelling}
-use Rattle.qc_packet.specs.Building.{min_size_of, padded_size}
-use Rattle.qc_packet.specs.PacketSpelling.{padding_len}
-use Rattle.qc_state.specs.declared.transmit.TheConstants.{DATAGRAM_SIZE}
-use Rattle.qc_state.specs.Sending.{close_frame, told_code, told_type, told_application_code, application_close, told_close, closing_frame, IsKeptReason, Closes, header_in, room_of, fills, packet_size, least_size, padding_of, padded}
+use Rattle.qc_state.specs.Sending.{close_frame, told_code, told_type, told_application_code, application_close, told_close, closing_frame, IsKeptReason, Closes, header_in, room_of}
 use Rattle.qc_state.specs.Spaces.{is_space, space_of}
 use Rattle.qc_state.specs.Types.{Types}
 use Rattle.qc_state.specs.View.{View}
 use Rattle.qc_send.proofs.Waits.{taken_fits, ack_fits, bytes_append}
-use Rattle.qc_send.proofs.Built.{dst_within}
 use Rattle.qc_send.specs.Taking.{TakenNow}
-
--- a datagram's size or nothing is no more than it
-least_by : (b : Bool) → (if b then DATAGRAM_SIZE else 0) ≤ DATAGRAM_SIZE
-least_by true = omega arith
-least_by false = omega arith
-
--- PADDING has a byte a frame
-padding_bytes : (n : ℕ) → length (frames_spelling (replicate n Padding)) ≡ n
-padding_bytes n = ap length (zeros n) ∙ length-replicate n 0
-
-module _ {t : Types} where
-  -- a packet is asked for no more bytes than a datagram has
-  pub least_low : (s : View t) (form : Form) (fs : List FrameValue) → least_size s form fs ≤ DATAGRAM_SIZE
-  unfolding least_size
-  least_low s form fs = least_by (fills s.setup.fixed.side (number_space form) (list_any elicits fs))
-
-  -- so many bytes has a packet with these frames and the PADDING that they need
-  pub padded_size_is : (s : View t) (form : Form) (h : Header) (fs : List FrameValue) → h ≡ header_in s form → padded_size h fs (least_size s form fs) ≡ packet_size s form (padded s form fs)
-  unfolding packet_size padded padding_of
-  padded_size_is s form h fs is =
-      let n : ℕ = padding_len (header_in s form) fs (padded_size (header_in s form) fs (least_size s form fs)) in
-      let whole : length (frames_spelling (fs ++ replicate n Padding)) ≡ length (frames_spelling fs) + n = bytes_append fs (replicate n Padding) ∙ ap (λ (x : ℕ). length (frames_spelling fs) + x) (padding_bytes n) in
-      ap (λ (x : Header). padded_size x fs (least_size s form fs)) is ∙ omega (arith, whole)
-
-  -- which fit into a datagram, where the frames do behind the header with room for the tag, and the header leaves room for 25 bytes
-  pub padded_fits : (capacity : ℕ) (s : View t) (form : Form) (h : Header) (fs : List FrameValue) → DATAGRAM_SIZE ≤ capacity → h ≡ header_in s form → length (header_spelling h 0) + 41 ≤ capacity →
-      length (header_spelling h 0) + length (frames_spelling fs) + 16 ≤ capacity → packet_size s form (padded s form fs) ≤ capacity
-  unfolding min_size_of
-  padded_fits capacity s form h fs large is short room =
-      let len : length (header_spelling h 0) ≡ length (header_spelling (header_in s form) 0) = ap (λ (x : Header). length (header_spelling x 0)) is in
-      let size : padded_size (header_in s form) fs (least_size s form fs) ≡ packet_size s form (padded s form fs) = padded_size_is s form (header_in s form) fs refl in
-      omega (arith, large, short, room, len, size, dst_within s form, least_low s form fs)
 
 -- a close without a reason is short
 close_short : (code : ℕ) (type : Option ℕ) → length (frames_spelling (close_frame code type ∷ [])) ≤ 18
@@ -97,13 +56,13 @@ close_fits time s space room fs (Closes.closing acks part kept reason is) wide =
     omega (arith, acks_short, whole, close, wide)
 
 -- the frames that are taken fit into the room
-pub now_fits : {t : Types} (closing : Bool) (time : ℕ) (s : View t) (space : SpaceId) (room : ℕ) (fs : List FrameValue) → TakenNow closing time s space room fs → 25 ≤ room → length (frames_spelling fs) ≤ room
-now_fits closing time s space room fs (TakenNow.a_close e closes) wide = close_fits time s space room fs closes wide
-now_fits closing time s space room fs (TakenNow.what_waits e taken may oldest next some) wide =
-    taken_fits time s.waiting.bundled (is_space space «Data») (space_of s.waiting.spaces space) room fs taken (omega arith)
+pub now_fits : {t : Types} (closing first : Bool) (time : ℕ) (s : View t) (id : SpaceId) (room : ℕ) (fs : List FrameValue) → TakenNow closing first time s id room fs → 25 ≤ room → length (frames_spelling fs) ≤ room
+now_fits closing first time s id room fs (TakenNow.a_close e closes) wide = close_fits time s id room fs closes wide
+now_fits closing first time s id room fs (TakenNow.what_waits e taken may oldest next some) wide =
+    taken_fits time s.waiting.bundled (is_space id «Data») (space_of s.waiting.spaces id) room fs taken (omega arith)
 
 -- and behind the header
-pub room_holds : {t : Types} (capacity : ℕ) (s : View t) (form : Form) (bytes : ℕ) → 25 ≤ room_of capacity s form → bytes ≤ room_of capacity s form →
-    (length (header_spelling (header_in s form) 0) + 41 ≤ capacity) × (length (header_spelling (header_in s form) 0) + bytes + 16 ≤ capacity)
+pub room_holds : {t : Types} (left : ℕ) (s : View t) (form : Form) (bytes : ℕ) → 25 ≤ room_of left s form → bytes ≤ room_of left s form →
+    (length (header_spelling (header_in s form) 0) + 41 ≤ left) × (length (header_spelling (header_in s form) 0) + bytes + 16 ≤ left)
 unfolding room_of
-room_holds capacity s form bytes wide fits = (omega (arith, wide), omega (arith, wide, fits))
+room_holds left s form bytes wide fits = (omega (arith, wide), omega (arith, wide, fits))

@@ -4,10 +4,16 @@ pub mod Choosing
 pub mod ClosingFrames
 pub mod Drawing
 pub mod Fits
-pub mod Grown
+pub mod Follows
+pub mod Joins
+pub mod Loops
+pub mod Padded
+pub mod Planned
+pub mod Rooms
+pub mod Sealed
 pub mod Seals
-mod Sized
+pub mod Sends
+pub mod Sizes
 pub mod Takes
 pub mod Transmits
 pub mod Waits
-mod Wide

@@ -1,123 +1,180 @@
 -- A packet that was begun, whose frames were taken and sealed, is one that may follow.
-use Rattle.std.proofs.Common.{◌≡◌, ℕ, ◌+◌, ◌-◌, ◌≤◌, List, [], ◌++◌, length, refl, ap, sym, ◌∙◌, subst, Bool, true, false, ◌⊎◌, inl, inr, ◌<◌, arith}
+use Rattle.std.proofs.Common.{◌≡◌, ℕ, ◌+◌, ◌-◌, ◌≤◌, ◌==◌, List, ◌++◌, length, refl, ap, sym, ◌∙◌, subst, Bool, true, false, Option, ◌⊎◌, inl, inr, arith}
+use Rattle.std.proofs.lemmas.Bool.Decides.{nat_tests}
 use Rattle.qc_base.specs.declared.side.SpaceId.{SpaceId}
-use Rattle.qc_base.specs.declared.side.SpaceId.TheVariants.{Initial}
 use Rattle.qc_frame.specs.Frame.{FrameValue}
 use Rattle.qc_frame.specs.FrameSpelling.{frames_spelling}
-use Rattle.qc_header.specs.declared.header.Header.{Header}
-use Rattle.qc_header.specs.HeaderSpelling.{header_spelling}
+use Rattle.qc_send.specs.Filling.{batch_planned, padded_to, padding_to, size_to}
+use Rattle.qc_send.specs.Joining.{IsBegun, IsRoomy, least_by}
+use Rattle.qc_send.specs.Taking.{TakenNow}
+use Rattle.qc_state.specs.declared.deeds.Did.{Did}
 use Rattle.qc_state.specs.declared.form.Form.{Form}
-use Rattle.qc_state.specs.declared.transmit.TheConstants.{DATAGRAM_SIZE}
-use Rattle.qc_state.specs.Forms.{number_space}
-use Rattle.qc_state.specs.Moves.{Take, Seal, state_move, move_to}
-use Rattle.qc_state.specs.Numbers.{next_number}
 use Rattle.qc_state.specs.declared.numbers.Numbers.{Numbers}
-use Rattle.qc_state.specs.Sending.{Carries, LacksAckRoom, is_key_nearly_used_up, header_in, room_of, packet_bytes, begun_after, begun_view, is_flown, flown_after, sealed_in, packet_after, packet_size, padded, MayBegin, Going, going, SendsOne, batch_grown, begun_batch, room_in}
-use Rattle.qc_state.specs.Spaces.{is_space, space_of}
+use Rattle.qc_state.specs.declared.transmit.Batch.{Batch}
+use Rattle.qc_state.specs.Forms.{number_space}
+use Rattle.qc_state.specs.Moves.{Seal, Take, move_to, state_move}
+use Rattle.qc_state.specs.Numbers.{next_number}
+use Rattle.qc_state.specs.Sending.{Carries, Going, IsPadded, LacksAckRoom, MayBegin, MayFollow, SendsOne, batch_grown, batch_opened, begun_after, begun_batch, begun_view, fills_up, flown_after, going, holds_owed, is_flown, is_key_nearly_used_up, packet_after, packet_bytes, packet_size, padding_in, room_in, room_of, sealed_in}
 use Rattle.qc_state.specs.Types.{Types, Meaning}
 use Rattle.qc_state.specs.View.{View, At, at}
-use Rattle.qc_send.proofs.Waits.{Lacks, taken_wait, taken_any}
-use Rattle.qc_state.specs.declared.transmit.Batch.{Batch}
-use Rattle.qc_state.proofs.Batches.{opened_filled}
-use Rattle.qc_send.proofs.Begins.{begun_at, begun_state, room_wide}
-use Rattle.qc_send.proofs.Fits.{now_fits, padded_fits, room_holds}
-use Rattle.qc_send.proofs.Takes.{bytes_kept, header_taken, number_kept, padded_kept, sealed_now, size_kept, take_padded}
-use Rattle.qc_send.specs.Taking.{OwesAckAlone, TakenNow}
+use Rattle.qc_send.proofs.Begins.{begun_is, begun_state}
+use Rattle.qc_send.proofs.Fits.{now_fits, room_holds}
+use Rattle.qc_send.proofs.Padded.{fills_first, owed_padded, padded_is, padded_size_is, padding_in_is, size_parts, taken_bare, least_near}
+use Rattle.qc_send.proofs.Sizes.{least_fits, size_fits}
+use Rattle.qc_send.proofs.Takes.{bytes_kept, fills_kept, number_kept, padded_kept, padding_kept, room_kept, sealed_now, size_kept, size_to_kept, take_padded}
+use Rattle.qc_send.proofs.Waits.{taken_owed, taken_wait}
 
--- all of a datagram is left that has nothing in it
-whole_left : (left capacity filled : ℕ) → left ≡ capacity → filled ≡ 0 → left ≡ capacity - filled
-whole_left left capacity filled c f = omega (arith, c, f)
+-- a packet begins a transmit where none was made before it
+first_made : (n : ℕ) (first : Bool) → first ≡ (n == 0) → first ≡ true → n ≡ 0
+first_made n first is e =
+    let zero : (n == 0) ≡ true = sym is ∙ e in
+    grind (arith, nat_tests)
+
+opened_closing : (opens probes : Bool) (b : Batch) → (batch_opened opens probes b).closing ≡ b.closing
+unfolding batch_opened
+opened_closing true probes b = refl
+opened_closing false probes b = refl
+
+-- no datagram has many bytes
+pub left_small : (c : Batch) (id : SpaceId) → IsBegun c id → c.capacity - c.filled ≤ 16383
+left_small c id begun = omega (arith, begun.sized.within, begun.sized.small)
 
 module _ {t : Types} where
-  -- an ACK that is all that is owed has no room in the packet, where no frame is taken
-  no_room : (time : ℕ) (s : View t) (id : SpaceId) (room : ℕ) (fs : List FrameValue) → (0 < length fs) ⊎ OwesAckAlone s id → (0 < length fs) ⊎ Lacks time (space_of s.waiting.spaces id) room →
-      (0 < length fs) ⊎ LacksAckRoom time s id room
-  no_room time s id room fs (inl some) x = inl some
-  no_room time s id room fs (inr ack) (inl some) = inl some
-  no_room time s id room fs (inr ack) (inr lacks) = inr (record { owed = ack.owed; alone = ack.alone; ack = lacks.ack; says = lacks.says; long = lacks.long })
-
-  -- the frames that are taken once a datagram is begun, with the PADDING that they need behind them, are what a packet may carry
-  carries : (opens closing : Bool) (time : ℕ) (s : View t) (form : Form) (room : ℕ) (fs gs : List FrameValue) → 25 ≤ room →
-      TakenNow closing time (begun_view s (number_space form) opens) (number_space form) room fs → gs ≡ padded (begun_view s (number_space form) opens) form fs → Carries closing time (begun_view s (number_space form) opens) form room gs
-  carries opens closing time s form room fs gs wide (TakenNow.a_close e closes) is_gs = Carries.a_close e fs closes is_gs
-  carries opens closing time s form room fs gs wide (TakenNow.what_waits e taken may oldest next some) is_gs =
-      let id : SpaceId = number_space form in
-      let v : View t = begun_view s id opens in
-      Carries.what_waits e fs (taken_wait time v id room fs taken may oldest next) (no_room time v id room fs some (taken_any time v id room fs taken some wide)) is_gs
-
-  -- a first datagram has nothing in it
-  first_filled : (opens : Bool) (s : View t) (id : SpaceId) (b : Batch) → opens ≡ true → (begun_batch s id opens b).filled ≡ 0
+  -- a batch in which a packet is begun knows of a close still
+  pub begun_closing : (s : View t) (id : SpaceId) (opens : Bool) (b c : Batch) → c ≡ begun_batch s id opens b → c.closing ≡ b.closing
   unfolding begun_batch
-  first_filled opens s id b o = opened_filled b opens _ o
+  begun_closing s id opens b c is = ap (λ (x : Batch). x.closing) is ∙ opened_closing opens _ b
 
-  -- a packet is begun; frames are taken, filled up with the PADDING that they need, sealed, and counted
-  seals_one : (opens : Bool) (m : Meaning t) (time : ℕ) (form : Form) (nearly : Bool) (g : Going t) (e mid : View t) (b f : At t) (batch : Batch) (buffer : List ℕ) (capacity : ℕ) (fs gs : List FrameValue) →
-      opens ≡ true → g.batch.made ≡ 0 → capacity ≡ (begun_batch g.now.state (number_space form) opens g.batch).capacity → capacity ≤ 16383 → g.out ≡ [] → MayBegin g.batch.closing g.now.state form → e ≡ (begun_after (number_space form) opens (at g.now.state [])).state → 25 ≤ room_of capacity e form →
-      TakenNow g.batch.closing time e (number_space form) (room_of capacity e form) fs → gs ≡ padded e form fs → mid ≡ state_move (Take (number_space form) fs) e → packet_size e form gs ≤ capacity →
-      b ≡ move_to (Seal time form (next_number e.numbers (number_space form)) (packet_size e form gs) gs) (at mid g.now.did) → f ≡ flown_after time (is_flown mid gs) b →
-      nearly ≡ is_key_nearly_used_up g.now.state form → batch ≡ batch_grown (number_space form) (length buffer) nearly (begun_batch g.now.state (number_space form) opens g.batch) →
-      buffer ≡ packet_bytes m e form gs → length buffer ≡ packet_size e form gs → SendsOne m time g (going f batch buffer)
-  unfolding packet_after begun_view room_in
-  seals_one opens m time form nearly g e mid b f batch buffer capacity fs gs opened alone is_capacity most none may is_e wide taken is_gs is_mid fits is_b is_f is_nearly is_batch is_buffer full =
-      let a : At t = g.now in
-      let begun : e ≡ begun_view a.state (number_space form) opens = is_e in
-      let state : e ≡ (begun_after (number_space form) opens a).state = is_e ∙ sym (ap (λ (x : At t). x.state) (begun_at opens (number_space form) a)) in
-      let same : mid ≡ state_move (Take (number_space form) gs) e = is_mid ∙ sym (ap (λ (x : List FrameValue). state_move (Take (number_space form) x) e) is_gs ∙ take_padded form fs e) in
-      let is_now : f ≡ sealed_in time form gs (begun_after (number_space form) opens a) =
-      sealed_now time form a.did e mid b f gs same is_b is_f ∙ ap (λ (v : View t). sealed_in time form gs (at v a.did)) is_e ∙ ap (λ (x : At t). sealed_in time form gs x) (sym (begun_at opens (number_space form) a)) in
-      let is_batch_now : batch ≡ batch_grown (number_space form) (packet_size (begun_after (number_space form) opens a).state form gs) (is_key_nearly_used_up a.state form) (begun_batch a.state (number_space form) opens g.batch) =
-      is_batch ∙ ap (λ (n : ℕ). batch_grown (number_space form) n nearly (begun_batch a.state (number_space form) opens g.batch)) (full ∙ ap (λ (v : View t). packet_size v form gs) state)
-      ∙ ap (λ (x : Bool). batch_grown (number_space form) (packet_size (begun_after (number_space form) opens a).state form gs) x (begun_batch a.state (number_space form) opens g.batch)) is_nearly in
-      let is_out : buffer ≡ g.out ++ packet_bytes m (begun_after (number_space form) opens a).state form gs =
-      is_buffer ∙ ap (λ (v : View t). packet_bytes m v form gs) state ∙ ap (λ (x : List ℕ). x ++ packet_bytes m (begun_after (number_space form) opens a).state form gs) (sym none) in
-      let opened_batch : Batch = begun_batch a.state (number_space form) opens g.batch in
-      let filled : opened_batch.filled ≡ 0 = first_filled opens a.state (number_space form) g.batch opened in
-      let room : room_of capacity e form ≡ room_in opened_batch (begun_view a.state (number_space form) opens) form =
-      ap (λ (v : View t). room_of capacity v form) begun ∙ ap (λ (n : ℕ). room_of n (begun_view a.state (number_space form) opens) form) (whole_left capacity opened_batch.capacity opened_batch.filled is_capacity filled) in
+  -- what a packet carries, by the view and the batch once it was begun
+  record IsCarried (closing : Bool) (made time : ℕ) (v : View t) (c : Batch) (form : Form) (gs : List FrameValue) : Type 0 where
+    sized : c.capacity ≤ 65527
+    carries : Carries closing time v form (room_in c v form) gs
+    holds : closing ≡ false → (holds_owed v (number_space form) gs ≡ true) ⊎ ((made ≡ 0) × LacksAckRoom time v (number_space form) (room_in c v form))
+    padded : IsPadded c v form gs
+    fits : c.filled + packet_size v form gs ≤ c.capacity
+
+  -- frames that were taken, with PADDING behind them, are carried
+  taken_carries : (closing first : Bool) (time : ℕ) (v : View t) (form : Form) (room least : ℕ) (fs : List FrameValue) → TakenNow closing first time v (number_space form) room fs → Carries closing time v form room (padded_to v form least fs)
+  unfolding padded_to
+  taken_carries closing first time v form room least fs (TakenNow.a_close e closes) = Carries.a_close e fs (padding_to v form least fs) closes refl
+  taken_carries closing first time v form room least fs (TakenNow.what_waits e taken may oldest next some) =
+      Carries.what_waits e fs (padding_to v form least fs) (taken_wait time v (number_space form) room fs taken may oldest next) refl
+
+  -- and hold something that is owed
+  taken_holds : (closing first : Bool) (made time : ℕ) (v : View t) (form : Form) (room least : ℕ) (fs : List FrameValue) → first ≡ (made == 0) → TakenNow closing first time v (number_space form) room fs → closing ≡ false →
+      (holds_owed v (number_space form) (padded_to v form least fs) ≡ true) ⊎ ((made ≡ 0) × LacksAckRoom time v (number_space form) room)
+  taken_holds closing first made time v form room least fs is_first (TakenNow.a_close e closes) free = absurd (cc (e, free))
+  taken_holds closing first made time v form room least fs is_first (TakenNow.what_waits e taken may oldest next some) free = by_owed (taken_owed first time v (number_space form) room fs taken some)
+    where
+      by_owed : (holds_owed v (number_space form) fs ≡ true) ⊎ ((first ≡ true) × LacksAckRoom time v (number_space form) room) →
+          (holds_owed v (number_space form) (padded_to v form least fs) ≡ true) ⊎ ((made ≡ 0) × LacksAckRoom time v (number_space form) room)
+      by_owed (inl held) = inl (owed_padded v form least (number_space form) fs held)
+      by_owed (inr lacks) = inr (first_made made first is_first lacks.0, lacks.1)
+
+  -- the packet has room
+  pub packet_fits : (next : Option SpaceId) (c : Batch) (v : View t) (form : Form) (nearly : Bool) (least : ℕ) (fs : List FrameValue) → IsBegun c (number_space form) → 25 ≤ room_of (c.capacity - c.filled) v form →
+      length (frames_spelling fs) ≤ room_of (c.capacity - c.filled) v form → least ≡ least_by next (batch_planned v form nearly fs c) c.filled → c.filled + packet_size v form (padded_to v form least fs) ≤ c.capacity
+  unfolding batch_planned packet_size
+  packet_fits next c v form nearly least fs begun wide fit is =
+      let behind = room_holds (c.capacity - c.filled) v form (length (frames_spelling fs)) wide fit in
+      let asked : least ≤ c.capacity - c.filled = subst (λ (n : ℕ). n ≤ c.capacity - c.filled) (sym is) (least_fits next c (number_space form) form _ _ (fills_up v form fs) nearly begun (fills_first v form fs)) in
+      size_fits c (number_space form) _ least _ (packet_size v form (padded_to v form least fs)) begun (padded_size_is v form least fs ∙ size_parts v form least fs)
+      (omega (arith, least_near v form, behind.0)) asked (omega (arith, behind.1))
+
+  -- what is asked of the packet as it is sealed
+  pub room_taken : (left n room : ℕ) (e mid : View t) (form : Form) (fs : List FrameValue) → room ≡ room_of left e form → left ≡ n → mid ≡ state_move (Take (number_space form) fs) e → room ≡ room_of n mid form
+  room_taken left n room e mid form fs is_room is_left is_mid =
+      is_room ∙ ap (λ (x : ℕ). room_of x e form) is_left ∙ sym (room_kept n e form fs) ∙ ap (λ (v : View t). room_of n v form) (sym is_mid)
+
+  pub least_small : (next : Option SpaceId) (c : Batch) (v : View t) (form : Form) (nearly : Bool) (least left : ℕ) (fs : List FrameValue) → IsBegun c (number_space form) → left ≡ c.capacity - c.filled → least ≡ least_by next (batch_planned v form nearly fs c) c.filled →
+      least ≤ left
+  unfolding batch_planned
+  least_small next c v form nearly least left fs begun is_left is =
+      omega (arith, is, is_left, least_fits next c (number_space form) form (next_number v.numbers (number_space form)) (size_to v form 0 fs) (fills_up v form fs) nearly begun (fills_first v form fs))
+
+  -- so it is carried
+  is_carried : (next : Option SpaceId) (closing first nearly : Bool) (made time room least : ℕ) (v : View t) (c : Batch) (form : Form) (fs : List FrameValue) → IsBegun c (number_space form) → first ≡ (made == 0) →
+      room ≡ room_of (c.capacity - c.filled) v form → 25 ≤ room → TakenNow closing first time v (number_space form) room fs → least ≡ least_by next (batch_planned v form nearly fs c) c.filled →
+      IsCarried closing made time v c form (padded_to v form least fs)
+  unfolding room_in
+  is_carried next closing first nearly made time room least v c form fs begun is_first is_room wide taken is =
+      let here : TakenNow closing first time v (number_space form) (room_of (c.capacity - c.filled) v form) fs = subst (λ (n : ℕ). TakenNow closing first time v (number_space form) n fs) is_room taken in
+      let broad : 25 ≤ room_of (c.capacity - c.filled) v form = subst (λ (n : ℕ). 25 ≤ n) is_room wide in
       record {
-        packet = record { form = form; opens = opens; frames = gs };
-        may = record {
-          alone = alone;
-          opens = opened;
-          begins = may;
-          sized = omega (arith, is_capacity, most);
-          carries = subst (λ (x : ℕ). Carries g.batch.closing time (begun_view a.state (number_space form) opens) form x gs) room
-              (carries opens g.batch.closing time a.state form (room_of capacity e form) fs gs wide
-              (subst (λ (v : View t). TakenNow g.batch.closing time v (number_space form) (room_of capacity e form) fs) begun taken) (is_gs ∙ ap (λ (v : View t). padded v form fs) begun));
-          fits = omega (arith, is_capacity, filled, subst (λ (v : View t). packet_size v form gs ≤ capacity) begun fits);
-        };
-        leads = λ i. record { now = is_now i; batch = is_batch_now i; out = is_out i };
+        sized = omega (arith, begun.sized.within, begun.sized.small);
+        carries = taken_carries closing first time v form (room_of (c.capacity - c.filled) v form) least fs here;
+        holds = taken_holds closing first made time v form (room_of (c.capacity - c.filled) v form) least fs is_first here;
+        padded = padded_is next c v form nearly least fs begun broad (taken_bare closing first time v (number_space form) (room_of (c.capacity - c.filled) v form) fs here) is;
+        fits = packet_fits next c v form nearly least fs begun broad (now_fits closing first time v (number_space form) (room_of (c.capacity - c.filled) v form) fs here broad) is;
       }
 
--- the frames that are taken fit behind the header of their packet
-pub taken_room : {t : Types} (opens closing : Bool) (capacity time : ℕ) (a : At t) (e mid : View t) (form : Form) (fs : List FrameValue) → DATAGRAM_SIZE ≤ capacity → MayBegin closing a.state form → at e a.did ≡ begun_after (number_space form) opens a →
-    (is_space (number_space form) Initial ≡ false → 25 ≤ room_of capacity e form) → TakenNow closing time e (number_space form) (room_of capacity e form) fs → mid ≡ state_move (Take (number_space form) fs) e →
-    length (header_spelling (header_in mid form) 0) + length (frames_spelling fs) + 16 ≤ capacity
-taken_room opens closing capacity time a e mid form fs large may begun others taken is_mid =
-    let wide : 25 ≤ room_of capacity e form = room_wide opens closing capacity a e form large may begun others in
-    subst (λ (x : Header). length (header_spelling x 0) + length (frames_spelling fs) + 16 ≤ capacity) (sym (header_taken e mid form fs is_mid))
-    (room_holds capacity e form (length (frames_spelling fs)) wide (now_fits closing time e (number_space form) (room_of capacity e form) fs taken wide)).1
+  -- a packet may follow that may be begun, and is carried
+  may_follow : (m : Meaning t) (time : ℕ) (s v : View t) (b c : Batch) (form : Form) (opens : Bool) (gs : List FrameValue) → MayBegin m time s b form opens → v ≡ begun_view s (number_space form) opens →
+      c ≡ begun_batch s (number_space form) opens b → IsCarried b.closing b.made time v c form gs → MayFollow m time s b (record { form = form; opens = opens; frames = gs })
+  may_follow m time s v b c form opens gs may is_v is_c carried =
+      let here : IsCarried b.closing b.made time (begun_view s (number_space form) opens) (begun_batch s (number_space form) opens b) form gs =
+      subst (λ (x : Batch). IsCarried b.closing b.made time (begun_view s (number_space form) opens) x form gs) is_c (subst (λ (x : View t). IsCarried b.closing b.made time x c form gs) is_v carried) in
+      record { begins = may; sized = here.sized; carries = here.carries; holds = here.holds; padded = here.padded; fits = here.fits }
 
--- the packet is one that may follow: from what the calls say that begin it, take the frames, seal them, and count what was sealed
-pub seals_taken : {t : Types} (opens : Bool) (m : Meaning t) (time : ℕ) (form : Form) (nearly counts : Bool) (g : Going t) (e mid : View t) (b f : At t) (batch : Batch) (buffer : List ℕ) (capacity : ℕ) (fs : List FrameValue) →
-    opens ≡ true → g.batch.made ≡ 0 → capacity ≡ (begun_batch g.now.state (number_space form) opens g.batch).capacity → DATAGRAM_SIZE ≤ capacity → capacity ≤ 16383 → g.out ≡ [] →
-    MayBegin g.batch.closing g.now.state form → at e g.now.did ≡ begun_after (number_space form) opens g.now → (is_space (number_space form) Initial ≡ false → 25 ≤ room_of capacity e form) →
-    TakenNow g.batch.closing time e (number_space form) (room_of capacity e form) fs → mid ≡ state_move (Take (number_space form) fs) e →
-    b ≡ move_to (Seal time form (next_number mid.numbers (number_space form)) (length buffer) (padded mid form fs)) (at mid g.now.did) →
-    buffer ≡ packet_bytes m mid form (padded mid form fs) → length buffer ≡ packet_size mid form (padded mid form fs) → counts ≡ is_flown mid (padded mid form fs) →
-    f ≡ flown_after time counts b → nearly ≡ is_key_nearly_used_up g.now.state form → batch ≡ batch_grown (number_space form) (length buffer) nearly (begun_batch g.now.state (number_space form) opens g.batch) → SendsOne m time g (going f batch buffer)
-seals_taken {t} opens m time form nearly counts g e mid b f batch buffer capacity fs opened alone is_capacity large most none may begun others taken is_mid is_b is_buffer full is_counts is_f is_nearly is_batch =
-    let a : At t = g.now in
-    let closing : Bool = g.batch.closing in
-    let gs : List FrameValue = padded e form fs in
-    let wide : 25 ≤ room_of capacity e form = room_wide opens closing capacity a e form large may begun others in
-    let filled : padded mid form fs ≡ gs = ap (λ (v : View _). padded v form fs) is_mid ∙ padded_kept e form fs fs in
-    let whole : length buffer ≡ packet_size e form gs = full ∙ ap (λ (x : List FrameValue). packet_size mid form x) filled ∙ ap (λ (v : View _). packet_size v form gs) is_mid ∙ size_kept e form fs gs in
-    let behind = room_holds capacity e form (length (frames_spelling fs)) wide (now_fits closing time e (number_space form) (room_of capacity e form) fs taken wide) in
-    let number : next_number mid.numbers (number_space form) ≡ next_number e.numbers (number_space form) = ap (λ (v : Numbers). next_number v (number_space form)) (ap (λ (x : View _). x.numbers) is_mid ∙ number_kept e form fs) in
-    seals_one opens m time form nearly g e mid b f batch buffer capacity fs gs opened alone is_capacity most none may (begun_state opens a e (number_space form) begun) wide taken refl is_mid
-    (padded_fits capacity e form (header_in e form) fs large refl behind.0 behind.1)
-    (is_b ∙ ap (λ (x : List FrameValue). move_to (Seal time form (next_number mid.numbers (number_space form)) (length buffer) x) (at mid a.did)) filled
-    ∙ ap (λ (x : ℕ). move_to (Seal time form x (length buffer) gs) (at mid a.did)) number ∙ ap (λ (x : ℕ). move_to (Seal time form (next_number e.numbers (number_space form)) x gs) (at mid a.did)) whole)
-    (is_f ∙ ap (λ (x : Bool). flown_after time x b) (is_counts ∙ ap (λ (x : List FrameValue). is_flown mid x) filled)) is_nearly is_batch
-    (is_buffer ∙ ap (λ (x : List FrameValue). packet_bytes m mid form x) filled ∙ ap (λ (v : View _). packet_bytes m v form gs) is_mid ∙ bytes_kept m e form fs gs) whole
+  -- what a packet leaves, by the view once it was begun
+  leads_by : (m : Meaning t) (time : ℕ) (g : Going t) (e : View t) (form : Form) (opens : Bool) (gs : List FrameValue) (f : At t) (batch : Batch) (buffer : List ℕ) → at e g.now.did ≡ begun_after (number_space form) opens g.now →
+      f ≡ sealed_in m time form gs (at e g.now.did) →
+      batch ≡ batch_grown form (next_number e.numbers (number_space form)) (packet_size e form gs) (padding_in gs) (fills_up e form gs) (is_key_nearly_used_up g.now.state form) (begun_batch g.now.state (number_space form) opens g.batch) →
+      buffer ≡ g.out ++ packet_bytes m e form gs → going f batch buffer ≡ packet_after m time (record { form = form; opens = opens; frames = gs }) g
+  unfolding packet_after
+  leads_by m time g e form opens gs f batch buffer begun is_f is_batch is_buffer =
+      let step : At t → Going t = λ (x : At t). going (sealed_in m time form gs x) (batch_grown form (next_number x.state.numbers (number_space form)) (packet_size x.state form gs) (padding_in gs) (fills_up x.state form gs)
+      (is_key_nearly_used_up g.now.state form) (begun_batch g.now.state (number_space form) opens g.batch)) (g.out ++ packet_bytes m x.state form gs) in
+      let here : going f batch buffer ≡ step (at e g.now.did) = λ i. record { now = is_f i; batch = is_batch i; out = is_buffer i } in
+      here ∙ ap step begun
+
+  -- taking frames leaves what is planned
+  pub planned_kept : (s : View t) (form : Form) (nearly : Bool) (fs gs : List FrameValue) (c : Batch) → batch_planned (state_move (Take (number_space form) fs) s) form nearly gs c ≡ batch_planned s form nearly gs c
+  unfolding batch_planned
+  planned_kept s form nearly fs gs c =
+      let numbers : (state_move (Take (number_space form) fs) s).numbers ≡ s.numbers = number_kept s form fs in
+      let size : size_to (state_move (Take (number_space form) fs) s) form 0 gs ≡ size_to s form 0 gs = size_to_kept s form 0 fs gs in
+      let fill : fills_up (state_move (Take (number_space form) fs) s) form gs ≡ fills_up s form gs = fills_kept s form fs gs in
+      λ i. batch_grown form (next_number (numbers i) (number_space form)) (size i) 0 (fill i) nearly c
+
+  -- the packet is one that may follow: from what the calls say that begin it, take the frames, plan it, seal it, and count it
+  pub seals_taken : (opens first nearly fills counts : Bool) (m : Meaning t) (time : ℕ) (form : Form) (g : Going t) (e mid : View t) (b f : At t) (c batch : Batch) (buffer : List ℕ) (next : Option SpaceId)
+      (left room least number size padding : ℕ) (fs : List FrameValue) → first ≡ (g.batch.made == 0) → nearly ≡ is_key_nearly_used_up g.now.state form → MayBegin m time g.now.state g.batch form opens → IsRoomy g.batch (number_space form) opens →
+      at e g.now.did ≡ begun_after (number_space form) opens g.now → c ≡ begun_batch g.now.state (number_space form) opens g.batch → left ≡ c.capacity - c.filled → room ≡ room_of left e form → 25 ≤ room →
+      number ≡ next_number e.numbers (number_space form) → TakenNow c.closing first time e (number_space form) room fs → mid ≡ state_move (Take (number_space form) fs) e → least ≡ least_by next (batch_planned mid form nearly fs c) c.filled →
+      b ≡ move_to (Seal time form (next_number mid.numbers (number_space form)) (packet_size mid form (padded_to mid form least fs)) (padded_to mid form least fs)) (at mid g.now.did) →
+      buffer ≡ g.out ++ packet_bytes m mid form (padded_to mid form least fs) → size ≡ packet_size mid form (padded_to mid form least fs) → padding ≡ padding_to mid form least fs → fills ≡ fills_up mid form (padded_to mid form least fs) →
+      counts ≡ is_flown mid (padded_to mid form least fs) → f ≡ flown_after m time size counts b → batch ≡ batch_grown form number size padding fills nearly c → SendsOne m time g (going f batch buffer)
+  unfolding begun_view
+  seals_taken opens first nearly fills counts m time form g e mid b f c batch buffer next left room least number size padding fs is_first is_nearly may roomy begun is_c is_left is_room wide is_number taken is_mid is_least is_b is_buffer
+      is_size is_padding is_fills is_counts is_f is_batch =
+      let id : SpaceId = number_space form in
+      let ds : List Did = g.now.did in
+      let gs : List FrameValue = padded_to e form least fs in
+      let hs : List FrameValue = padded_to mid form least fs in
+      let filled : hs ≡ gs = ap (λ (v : View t). padded_to v form least fs) is_mid ∙ padded_kept e form least fs fs in
+      let size_e : packet_size mid form hs ≡ packet_size e form gs = ap (λ (xs : List FrameValue). packet_size mid form xs) filled ∙ ap (λ (v : View t). packet_size v form gs) is_mid ∙ size_kept e form fs gs in
+      let number_e : next_number mid.numbers id ≡ next_number e.numbers id = ap (λ (v : Numbers). next_number v id) (ap (λ (x : View t). x.numbers) is_mid ∙ number_kept e form fs) in
+      let padding_e : padding ≡ padding_in gs =
+      is_padding ∙ ap (λ (v : View t). padding_to v form least fs) is_mid ∙ padding_kept e form least fs fs ∙ sym (padding_in_is e form least fs (taken_bare c.closing first time e id room fs taken)) in
+      let fills_e : fills ≡ fills_up e form gs = is_fills ∙ ap (λ (xs : List FrameValue). fills_up mid form xs) filled ∙ ap (λ (v : View t). fills_up v form gs) is_mid ∙ fills_kept e form fs gs in
+      let bytes_e : packet_bytes m mid form hs ≡ packet_bytes m e form gs = ap (λ (xs : List FrameValue). packet_bytes m mid form xs) filled ∙ ap (λ (v : View t). packet_bytes m v form gs) is_mid ∙ bytes_kept m e form fs gs in
+      let sealed : b ≡ move_to (Seal time form (next_number e.numbers id) (packet_size e form gs) gs) (at mid ds) =
+      is_b ∙ ap (λ (n : ℕ). move_to (Seal time form n (packet_size mid form hs) hs) (at mid ds)) number_e ∙ ap (λ (n : ℕ). move_to (Seal time form (next_number e.numbers id) n hs) (at mid ds)) size_e
+      ∙ ap (λ (xs : List FrameValue). move_to (Seal time form (next_number e.numbers id) (packet_size e form gs) xs) (at mid ds)) filled in
+      let flown : f ≡ flown_after m time (packet_size e form gs) (is_flown mid gs) b =
+      is_f ∙ ap (λ (n : ℕ). flown_after m time n counts b) (is_size ∙ size_e) ∙ ap (λ (x : Bool). flown_after m time (packet_size e form gs) x b) (is_counts ∙ ap (λ (xs : List FrameValue). is_flown mid xs) filled) in
+      let now : f ≡ sealed_in m time form gs (at e ds) = sealed_now m time form ds e mid b f gs (is_mid ∙ sym (take_padded form least fs e)) sealed flown in
+      let planned : least ≡ least_by next (batch_planned e form nearly fs c) c.filled =
+      is_least ∙ ap (λ (x : Batch). least_by next x c.filled) (ap (λ (v : View t). batch_planned v form nearly fs c) is_mid ∙ planned_kept e form nearly fs fs c) in
+      let room_e : room ≡ room_of (c.capacity - c.filled) e form = is_room ∙ ap (λ (n : ℕ). room_of n e form) is_left in
+      let carried : IsCarried c.closing g.batch.made time e c form gs =
+      is_carried next c.closing first nearly g.batch.made time room least e c form fs (begun_is opens m time g.now.state g.batch c form may roomy is_c) is_first room_e wide taken planned in
+      let grown : batch ≡ batch_grown form (next_number e.numbers id) (packet_size e form gs) (padding_in gs) (fills_up e form gs) (is_key_nearly_used_up g.now.state form) (begun_batch g.now.state id opens g.batch) =
+      is_batch ∙ (λ i. batch_grown form (is_number i) ((is_size ∙ size_e) i) (padding_e i) (fills_e i) (is_nearly i) (is_c i)) in
+      record {
+        packet = record { form = form; opens = opens; frames = gs };
+        may = may_follow m time g.now.state e g.batch c form opens gs may (begun_state opens g.now e id begun) is_c
+            (subst (λ (x : Bool). IsCarried x g.batch.made time e c form gs) (begun_closing g.now.state id opens g.batch c is_c) carried);
+        leads = leads_by m time g e form opens gs f batch buffer begun now grown (is_buffer ∙ ap (λ (xs : List ℕ). g.out ++ xs) bytes_e);
+      }

@@ -1,5 +1,5 @@
 -- What taking frames leaves: the header of the next packet, its size and its bytes; a close and PADDING are taken without a change.
-use Rattle.std.proofs.Common.{◌≡◌, ℕ, ◌+◌, ◌-◌, ◌<◌, ◌==◌, ◌⊎◌, ◌||◌, not, inl, inr, append-nil, arith, List, [], ◌∷◌, ◌++◌, length, replicate, refl, ap, sym, ◌∙◌, Bool, true, false, ◌&&◌, if◌then◌else◌, Option, Some, None}
+use Rattle.std.proofs.Common.{◌≡◌, ℕ, ◌+◌, ◌-◌, ◌⊎◌, ◌||◌, not, inl, inr, append-nil, subst, List, [], ◌∷◌, ◌++◌, length, replicate, refl, ap, sym, ◌∙◌, Bool, true, false, ◌&&◌, if◌then◌else◌, Option, Some, None}
 use Rattle.std.specs.List.{list_any}
 use Rattle.qc_base.specs.declared.side.SpaceId.{SpaceId}
 use Rattle.qc_base.specs.declared.side.SpaceId.TheVariants.{Initial, Handshake, «Data»}
@@ -8,9 +8,9 @@ use Rattle.qc_frame.specs.FrameSpelling.{elicits, frames_spelling}
 use Rattle.qc_frame.specs.declared.frames.FrameOf.TheVariants.{Padding}
 use Rattle.qc_state.specs.declared.form.Form.{Form}
 use Rattle.qc_state.specs.declared.form.Form.TheVariants as form
-use Rattle.qc_state.specs.Acks.{AckPart, may_acknowledge}
+use Rattle.qc_state.specs.Acks.{AckPart, is_ack, may_acknowledge}
 use Rattle.qc_state.specs.Forms.{number_space}
-use Rattle.qc_state.specs.Life.{is_closed}
+use Rattle.qc_state.specs.Life.{is_closed, more_heard}
 use Rattle.qc_state.specs.declared.life.Close.{Close}
 use Rattle.qc_state.specs.declared.life.Close.TheVariants.{Connection, Application}
 use Rattle.qc_header.specs.declared.header.Header.{Header}
@@ -19,14 +19,15 @@ use Rattle.qc_packet.specs.Building.{padded_size}
 use Rattle.qc_packet.specs.PacketSpelling.{padding_len}
 use Rattle.qc_state.specs.Draws.{bit}
 use Rattle.qc_state.specs.declared.deeds.Did.{Did}
-use Rattle.qc_state.specs.declared.transmit.TheConstants.{DATAGRAM_SIZE}
+use Rattle.qc_state.specs.declared.life.Life.{Life}
 use Rattle.qc_state.specs.declared.lower.Lower.{Lower}
 use Rattle.qc_state.specs.declared.waiting.SpaceWaiting.{SpaceWaiting}
 use Rattle.qc_state.specs.Keys.{header_key, packet_key}
 use Rattle.qc_state.specs.Moves.{Take, Seal, state_move, move_to, numbers_move, keys_move, life_move, paths_move, timers_move, waiting_move, setup_move, lower_move, deeds_move}
 use Rattle.qc_state.specs.Numbers.{next_number}
 use Rattle.qc_state.specs.Setup.{behind_spin, takes_grease}
-use Rattle.qc_state.specs.Sending.{close_frame, application_close, told_close, closing_frame, IsKeptReason, Closes, header_in, spin_now, flips_now, sealed_with, packet_bytes, is_flown, flown_after, sealed_in, fills, packet_size, least_size, padding_of, padded}
+use Rattle.qc_state.specs.Sending.{close_frame, application_close, told_close, closing_frame, IsKeptReason, Closes, header_in, spin_now, fills_up, flips_now, holds_owed, room_of, sealed_with, packet_bytes, is_flown, flown_after, sealed_in, packet_size}
+use Rattle.qc_send.specs.Filling.{padded_to, padding_to, size_to}
 use Rattle.qc_state.specs.Spaces.{is_space, space_of, with_space}
 use Rattle.qc_state.specs.Types.{Types, Meaning}
 use Rattle.qc_state.specs.View.{View, At, at}
@@ -35,7 +36,7 @@ use Rattle.qc_state.specs.Waiting.{waiting_without, without, without_all}
 use Rattle.qc_state.specs.Acks.{is_ack_owed}
 use Rattle.qc_cids.specs.Steps as ids
 use Rattle.qc_datagrams.specs.Steps as posts
-use Rattle.qc_state.specs.Datagrams.{AllOldest, sealed_datagrams}
+use Rattle.qc_state.specs.Datagrams.{AllOldest, sealed_datagrams, told_by_all}
 use Rattle.qc_state.specs.Ids.{AllNext, sealed_cids}
 use Rattle.qc_state.specs.Lower.{frames_sealed}
 use Rattle.qc_state.specs.Offers.{datagram_waits, wants_sending}
@@ -65,14 +66,16 @@ close_stays w id kept false c = refl
 
 module _ {t : Types} where
   -- PADDING changes nothing of what waits
-  pub take_padded : (form : Form) (fs : List FrameValue) (s : View t) → state_move (Take (number_space form) (padded s form fs)) s ≡ state_move (Take (number_space form) fs) s
-  unfolding state_move numbers_move keys_move life_move paths_move timers_move waiting_move setup_move lower_move waiting_without padded
-  take_padded form fs s =
-      let gs : List FrameValue = padded s form fs in
-      let n : ℕ = padding_of s form fs in
-      ap (λ (w : SpaceWaiting). record s { waiting = record s.waiting { spaces = with_space s.waiting.spaces (number_space form) w }; lower = frames_sealed gs s.lower })
+  pub take_padded : (form : Form) (least : ℕ) (fs : List FrameValue) (s : View t) → state_move (Take (number_space form) (padded_to s form least fs)) s ≡ state_move (Take (number_space form) fs) s
+  unfolding state_move numbers_move keys_move life_move paths_move timers_move waiting_move setup_move lower_move waiting_without padded_to
+  take_padded form least fs s =
+      let gs : List FrameValue = padded_to s form least fs in
+      let n : ℕ = padding_to s form least fs in
+      let told : List posts.Step → Life = λ xs. more_heard (told_by_all xs s.lower.datagrams) s.life in
+      ap (λ (w : SpaceWaiting). record s { waiting = record s.waiting { spaces = with_space s.waiting.spaces (number_space form) w }; life = told (sealed_datagrams gs); lower = frames_sealed gs s.lower })
       (without_padded (space_of s.waiting.spaces (number_space form)) fs n)
-      ∙ ap (λ (l : Lower t.S). record s { waiting = waiting_without s.waiting (number_space form) fs; lower = l })
+      ∙ ap (λ (xs : List posts.Step). record s { waiting = waiting_without s.waiting (number_space form) fs; life = told xs; lower = frames_sealed gs s.lower }) (datagrams_padded fs n)
+      ∙ ap (λ (l : Lower t.S). record s { waiting = waiting_without s.waiting (number_space form) fs; life = told (sealed_datagrams fs); lower = l })
       (sealed_same gs fs s.lower (sealed_padded fs n) (datagrams_padded fs n) (cids_padded fs n))
 
   -- a close behind an ACK changes nothing more of what waits
@@ -90,39 +93,53 @@ module _ {t : Types} where
       let cids : sealed_cids all ≡ sealed_cids acks =
       cids_append acks (closing_frame id kept s.life ∷ []) ∙ ap (λ (xs : List ids.Step). sealed_cids acks ++ (xs ++ [])) (cids_closing id kept (is_closed s.life.state) s.life.close)
       ∙ append-nil (sealed_cids acks) in
-      ap (λ (x : SpaceWaiting). record s { waiting = record s.waiting { spaces = with_space s.waiting.spaces id x }; lower = frames_sealed acks s.lower })
+      let told : List posts.Step → Life = λ xs. more_heard (told_by_all xs s.lower.datagrams) s.life in
+      ap (λ (x : SpaceWaiting). record s { waiting = record s.waiting { spaces = with_space s.waiting.spaces id x }; life = told (sealed_datagrams acks); lower = frames_sealed acks s.lower })
       (sym (without_all_append w acks (closing_frame id kept s.life ∷ []) ∙ close_stays (without_all w acks) id kept (is_closed s.life.state) s.life.close))
-      ∙ ap (λ (l : Lower t.S). record s { waiting = waiting_without s.waiting id all; lower = l }) (sealed_same acks all s.lower (sym steps) (sym datagrams) (sym cids))
+      ∙ ap (λ (xs : List posts.Step). record s { waiting = waiting_without s.waiting id all; life = told xs; lower = frames_sealed acks s.lower }) (sym datagrams)
+      ∙ ap (λ (l : Lower t.S). record s { waiting = waiting_without s.waiting id all; life = told (sealed_datagrams all); lower = l }) (sealed_same acks all s.lower (sym steps) (sym datagrams) (sym cids))
 
   -- where the ACK was taken, the close behind it was taken too
   pub close_taken : (s mid : View t) (id : SpaceId) (kept : List ℕ) (acks fs : List FrameValue) → mid ≡ state_move (Take id acks) s → fs ≡ acks ++ closing_frame id kept s.life ∷ [] → mid ≡ state_move (Take id fs) s
   close_taken s mid id kept acks fs is_mid is_fs = is_mid ∙ close_behind s id kept acks ∙ ap (λ (x : List FrameValue). state_move (Take id x) s) (sym is_fs)
 
-  -- the ACK and the close, with the reason that fits behind the ACK, are the frames that this end takes, where a close is owed
-  pub takes_close : (closing : Bool) (time : ℕ) (s : View t) (id : SpaceId) (room : ℕ) (kept : List ℕ) (acks fs : List FrameValue) → closing ≡ true →
+  -- the ACK and the close, with the reason that fits behind the ACK
+  pub closes_so : (time : ℕ) (s : View t) (id : SpaceId) (room : ℕ) (kept : List ℕ) (acks fs : List FrameValue) →
       AckPart time (space_of s.waiting.spaces id) (room - 25) acks (may_acknowledge (space_of s.waiting.spaces id).acks) → IsKeptReason (room - length (frames_spelling acks)) kept s.life.close →
-      fs ≡ acks ++ closing_frame id kept s.life ∷ [] → TakenNow closing time s id room fs
-  takes_close closing time s id room kept acks fs owed part reason is = TakenNow.a_close owed (Closes.closing acks part kept reason is)
+      fs ≡ acks ++ closing_frame id kept s.life ∷ [] → Closes time s id room fs
+  closes_so time s id room kept acks fs part reason is = Closes.closing acks part kept reason is
+
+  -- are the frames that this end takes, where a close is owed
+  pub takes_close : (closing first : Bool) (time : ℕ) (s : View t) (id : SpaceId) (form : Form) (room : ℕ) (fs : List FrameValue) → closing ≡ true → id ≡ number_space form → Closes time s id room fs →
+      TakenNow closing first time s (number_space form) room fs
+  takes_close closing first time s id form room fs owed is closes = subst (λ (x : SpaceId). TakenNow closing first time s x room fs) is (TakenNow.a_close owed closes)
 
   -- and else it takes frames that wait
-  pub takes_waiting : (closing : Bool) (time : ℕ) (s : View t) (id : SpaceId) (room : ℕ) (fs : List FrameValue) → closing ≡ false →
+  pub takes_waiting : (closing first : Bool) (time : ℕ) (s : View t) (id : SpaceId) (form : Form) (room : ℕ) (fs : List FrameValue) → closing ≡ false → id ≡ number_space form →
       TakenPart time s.waiting.bundled (is_space id «Data») (space_of s.waiting.spaces id) room fs → AllMay (sealed_steps fs) s.lower.streams → AllOldest fs s.lower.datagrams →
-      AllNext fs s.lower.ids → (0 < length fs) ⊎ OwesAckAlone s id → TakenNow closing time s id room fs
-  takes_waiting closing time s id room fs free part may oldest next some = TakenNow.what_waits free part may oldest next some
+      AllNext fs s.lower.ids → (holds_owed s id fs ≡ true) ⊎ ((first ≡ true) × OwesAckAlone s id) → TakenNow closing first time s (number_space form) room fs
+  takes_waiting closing first time s id form room fs free is part may oldest next some =
+      subst (λ (x : SpaceId). TakenNow closing first time s x room fs) is (TakenNow.what_waits free part may oldest next some)
 
-  -- there is one, or an ACK is all that is owed
-  pub some_or_ack : (s : View t) (id : SpaceId) (fs : List FrameValue) (empty alone : Bool) → empty ≡ (length fs == 0) → alone ≡ (not (wants_sending s id || datagram_waits id s) && is_ack_owed (space_of s.waiting.spaces id).acks) →
-      (empty && not alone) ≡ false → (0 < length fs) ⊎ OwesAckAlone s id
-  some_or_ack s id [] empty alone is_empty is_alone h = by_alone (wants_sending s id || datagram_waits id s) (is_ack_owed (space_of s.waiting.spaces id).acks) empty alone refl refl is_empty is_alone h
+  -- among them is something that is owed, or an ACK is all that is
+  pub some_owed : (s : View t) (id : SpaceId) (fs : List FrameValue) (owes first alone makes : Bool) → owes ≡ is_ack_owed (space_of s.waiting.spaces id).acks →
+      alone ≡ (not (wants_sending s id || datagram_waits id s) && is_ack_owed (space_of s.waiting.spaces id).acks) → makes ≡ ((list_any elicits fs || (owes && list_any is_ack fs)) || (first && alone)) → makes ≡ true →
+      (holds_owed s id fs ≡ true) ⊎ ((first ≡ true) × OwesAckAlone s id)
+  unfolding holds_owed
+  some_owed s id fs owes first alone makes is_owes is_alone is_makes holds = by_held (list_any elicits fs || (owes && list_any is_ack fs)) refl (sym is_makes ∙ holds)
     where
-      by_alone : (a b empty alone : Bool) → (wants_sending s id || datagram_waits id s) ≡ a → is_ack_owed (space_of s.waiting.spaces id).acks ≡ b → empty ≡ true → alone ≡ (not a && b) → (empty && not alone) ≡ false → (0 < 0) ⊎ OwesAckAlone s id
-      by_alone false true empty alone wants owes is_empty is_alone h = inr (record { owed = owes; alone = wants })
-      by_alone false false true false wants owes is_empty is_alone h = cc
-      by_alone false false true true wants owes is_empty is_alone h = cc
-      by_alone true b true false wants owes is_empty is_alone h = cc
-      by_alone true b true true wants owes is_empty is_alone h = cc
-      by_alone a b false alone wants owes is_empty is_alone h = cc
-  some_or_ack s id (f ∷ fs) empty alone is_empty is_alone h = inl (omega arith)
+      alone_by : (x y : Bool) → (wants_sending s id || datagram_waits id s) ≡ x → is_ack_owed (space_of s.waiting.spaces id).acks ≡ y → (not x && y) ≡ true → OwesAckAlone s id
+      alone_by true y e f h = cc
+      alone_by false true e f h = record { owed = f; alone = e }
+      alone_by false false e f h = cc
+
+      by_alone : (x : Bool) → first ≡ x → (x && alone) ≡ true → (holds_owed s id fs ≡ true) ⊎ ((first ≡ true) × OwesAckAlone s id)
+      by_alone true e h = inr (e, alone_by (wants_sending s id || datagram_waits id s) (is_ack_owed (space_of s.waiting.spaces id).acks) refl refl (sym is_alone ∙ h))
+      by_alone false e h = cc
+
+      by_held : (x : Bool) → (list_any elicits fs || (owes && list_any is_ack fs)) ≡ x → (x || (first && alone)) ≡ true → (holds_owed s id fs ≡ true) ⊎ ((first ≡ true) × OwesAckAlone s id)
+      by_held true e h = inl (ap (λ (y : Bool). list_any elicits fs || (y && list_any is_ack fs)) (sym is_owes) ∙ e)
+      by_held false e h = by_alone first refl h
 
   -- taking frames leaves whether a packet with these counts as in flight
   flown_taken : (s mid : View t) (id : SpaceId) (fs : List FrameValue) → mid ≡ state_move (Take id fs) s → is_flown mid fs ≡ is_flown s fs
@@ -130,12 +147,12 @@ module _ {t : Types} where
   flown_taken s mid id fs is = ap (λ (x : View t). is_flown x fs) is
 
   -- a packet of this form is sealed, where its frames are taken first
-  pub sealed_now : (time : ℕ) (form : Form) (ds : List Did) (e mid : View t) (b f : At t) (gs : List FrameValue) → mid ≡ state_move (Take (number_space form) gs) e →
-      b ≡ move_to (Seal time form (next_number e.numbers (number_space form)) (packet_size e form gs) gs) (at mid ds) → f ≡ flown_after time (is_flown mid gs) b → f ≡ sealed_in time form gs (at e ds)
+  pub sealed_now : (m : Meaning t) (time : ℕ) (form : Form) (ds : List Did) (e mid : View t) (b f : At t) (gs : List FrameValue) → mid ≡ state_move (Take (number_space form) gs) e →
+      b ≡ move_to (Seal time form (next_number e.numbers (number_space form)) (packet_size e form gs) gs) (at mid ds) → f ≡ flown_after m time (packet_size e form gs) (is_flown mid gs) b → f ≡ sealed_in m time form gs (at e ds)
   unfolding sealed_in move_to deeds_move
-  sealed_now time form ds e mid b f gs same is_b is_f =
-      is_f ∙ ap (λ (x : Bool). flown_after time x b) (flown_taken e mid (number_space form) gs same)
-      ∙ ap (λ (x : At t). flown_after time (is_flown e gs) x)
+  sealed_now m time form ds e mid b f gs same is_b is_f =
+      is_f ∙ ap (λ (x : Bool). flown_after m time (packet_size e form gs) x b) (flown_taken e mid (number_space form) gs same)
+      ∙ ap (λ (x : At t). flown_after m time (packet_size e form gs) (is_flown e gs) x)
       (is_b ∙ ap (λ (x : View t). move_to (Seal time form (next_number e.numbers (number_space form)) (packet_size e form gs) gs) (at x ds)) same)
 
   -- taking frames leaves the header of the next packet
@@ -154,9 +171,25 @@ module _ {t : Types} where
   unfolding packet_size
   size_kept s form fs gs = ap (λ (x : Header). length (header_spelling x 0) + length (frames_spelling gs) + 16) (header_kept s form fs)
 
-  pub padded_kept : (s : View t) (form : Form) (fs gs : List FrameValue) → padded (state_move (Take (number_space form) fs) s) form gs ≡ padded s form gs
-  unfolding padded padding_of least_size state_move setup_move
-  padded_kept s form fs gs = ap (λ (x : Header). gs ++ replicate (padding_len x gs (padded_size x gs (if fills s.setup.fixed.side (number_space form) (list_any elicits gs) then DATAGRAM_SIZE else 0))) Padding) (header_kept s form fs)
+  pub padded_kept : (s : View t) (form : Form) (least : ℕ) (fs gs : List FrameValue) → padded_to (state_move (Take (number_space form) fs) s) form least gs ≡ padded_to s form least gs
+  unfolding padded_to padding_to
+  padded_kept s form least fs gs = ap (λ (x : Header). gs ++ replicate (padding_len x gs (padded_size x gs least)) Padding) (header_kept s form fs)
+
+  pub padding_kept : (s : View t) (form : Form) (least : ℕ) (fs gs : List FrameValue) → padding_to (state_move (Take (number_space form) fs) s) form least gs ≡ padding_to s form least gs
+  unfolding padding_to
+  padding_kept s form least fs gs = ap (λ (x : Header). padding_len x gs (padded_size x gs least)) (header_kept s form fs)
+
+  pub size_to_kept : (s : View t) (form : Form) (least : ℕ) (fs gs : List FrameValue) → size_to (state_move (Take (number_space form) fs) s) form least gs ≡ size_to s form least gs
+  unfolding size_to
+  size_to_kept s form least fs gs = ap (λ (x : Header). padded_size x gs least) (header_kept s form fs)
+
+  pub room_kept : (left : ℕ) (s : View t) (form : Form) (fs : List FrameValue) → room_of left (state_move (Take (number_space form) fs) s) form ≡ room_of left s form
+  unfolding room_of
+  room_kept left s form fs = ap (λ (x : Header). left - 16 - length (header_spelling x 0)) (header_kept s form fs)
+
+  pub fills_kept : (s : View t) (form : Form) (fs gs : List FrameValue) → fills_up (state_move (Take (number_space form) fs) s) form gs ≡ fills_up s form gs
+  unfolding fills_up state_move setup_move
+  fills_kept s form fs gs = refl
 
   pub bytes_kept : (m : Meaning t) (s : View t) (form : Form) (fs gs : List FrameValue) → packet_bytes m (state_move (Take (number_space form) fs) s) form gs ≡ packet_bytes m s form gs
   unfolding packet_bytes flips_now state_move keys_move setup_move numbers_move

@@ -1,12 +1,15 @@
 -- The frames that this end takes wait, there is one where one waits, and they fit.
-use Rattle.std.proofs.Common.{◌≡◌, ℕ, zero, suc, ◌+◌, ◌-◌, ◌%◌, ◌<◌, ◌≤◌, List, [], ◌∷◌, ◌++◌, length, replicate, refl, ap, sym, ◌∙◌, subst, Bool, true, false, ◌||◌, ◌⊎◌, if◌then◌else◌, Option, arith, length-append, append_assoc, append-nil, inl, inr}
+use Rattle.std.proofs.Common.{◌≡◌, ℕ, zero, suc, ◌+◌, ◌-◌, ◌%◌, ◌≤◌, List, [], ◌∷◌, ◌++◌, length, replicate, refl, ap, sym, ◌∙◌, subst, Bool, true, false, ◌||◌, ◌⊎◌, if◌then◌else◌, Option, arith, length-append, append_assoc, append-nil, inl, inr, ◌&&◌}
 use Rattle.std.proofs.lemmas.Grind.{flat_map-append}
 use Rattle.qc_base.specs.Varint.{varint, spelled, limit, one, two, four, eight}
-use Rattle.qc_frame.specs.Frame.{FrameValue, AckValue}
+use Rattle.qc_frame.specs.Frame.{FrameValue}
 use Rattle.qc_frame.specs.FrameFits.{Fits}
-use Rattle.qc_frame.specs.FrameSpelling.{spelling, frames_spelling}
+use Rattle.qc_frame.specs.FrameSpelling.{elicits, spelling, frames_spelling}
 use Rattle.qc_frame.specs.declared.frames.FrameOf.TheVariants.{Padding, HandshakeDone, Ping, Ack, Crypto, Stream, ResetStream, StopSending, MaxData, MaxStreamData, MaxStreams, Datagram, NewConnectionId, RetireConnectionId}
-use Rattle.qc_state.specs.Acks.{AckPart, SaysAck, is_ack_first, is_ack_given, is_ack_last, is_ack_owed}
+use Rattle.qc_state.specs.Acks.{AckPart, IsLongAck, SaysAck, is_ack, is_ack_first, is_ack_given, is_ack_last, is_ack_owed}
+use Rattle.qc_state.specs.Offers.{wants_sending}
+use Rattle.qc_state.specs.Sending.{LacksAckRoom, holds_owed}
+use Rattle.std.specs.List.{list_any}
 use Rattle.qc_state.specs.declared.waiting.SpaceWaiting.{SpaceWaiting}
 use Rattle.qc_state.proofs.AckLemmas.{first_gives, last_gives, owed_first, part_same}
 use Rattle.qc_cids.specs.Steps as ids
@@ -16,10 +19,12 @@ use Rattle.qc_datagrams.specs.declared.datagrams.Datagrams.{Datagrams}
 use Rattle.qc_state.proofs.DatagramSteps.{taken_datagrams}
 use Rattle.qc_state.proofs.IdSteps.{taken_cids}
 use Rattle.qc_state.proofs.OffersTaken.{frames_sealed_append}
+use Rattle.qc_state.proofs.RoomTold.{same_heard, told_twice}
 use Rattle.qc_state.proofs.Taken.{front_cids, front_datagrams, front_steps, last_counts, last_same, offered_stays, own_next, own_oldest, part_steps}
 use Rattle.qc_state.specs.Allowed.{Waits, WaitAll}
-use Rattle.qc_state.specs.Datagrams.{AllOldest, IsOldest, sealed_datagrams}
+use Rattle.qc_state.specs.Datagrams.{AllOldest, IsOldest, sealed_datagrams, told_by_all}
 use Rattle.qc_state.specs.Ids.{AllNext, IsNext, sealed_cids}
+use Rattle.qc_state.specs.Life.{more_heard}
 use Rattle.qc_state.specs.Lower.{datagrams_stepped, frames_sealed, ids_stepped, streams_stepped}
 use Rattle.qc_state.specs.Moves.{Take, state_move, numbers_move, keys_move, life_move, paths_move, timers_move, waiting_move, setup_move, lower_move}
 use Rattle.qc_state.specs.Spaces.{is_space, space_of, with_space}
@@ -28,6 +33,7 @@ use Rattle.qc_state.specs.Taking.{AreOffered, room_behind, marks_part, done_part
 use Rattle.qc_state.specs.Types.{Types}
 use Rattle.qc_state.specs.View.{View}
 use Rattle.qc_state.specs.Waiting.{StartsWith, without, without_all, crypto_waits, waiting_without, wants_here}
+use Rattle.qc_state.specs.declared.life.Life.{Life}
 use Rattle.qc_state.specs.declared.lower.Lower.{Lower}
 use Rattle.qc_state.specs.declared.waiting.Waiting.{Waiting}
 use Rattle.qc_send.specs.Taking.{OwesAckAlone}
@@ -137,80 +143,27 @@ taken_waits time bundled in_data w room fs taken =
     front_waits time (room - length (marks_part w)) (room - length (marks_part w) - length (frames_spelling taken.acks)) taken.left bundled w
     taken.acks taken.crypto taken.last w.done w.ping refl refl taken.ack taken.part taken.bundle
 
--- there is a CRYPTO frame, where bytes wait and there is room for more than its head
-crypto_some : (w : SpaceWaiting) (room : ℕ) (fs : List FrameValue) → CryptoPart w room fs → crypto_waits w ≡ true → 17 < room → 0 < length fs
-unfolding CryptoPart
-crypto_some w room [] (inl none) h r = absurd (cc (none, h))
-crypto_some w room [] (inr low) h r = absurd (omega arith)
-crypto_some w room (f ∷ fs) part h r = omega arith
+-- without a mark none is taken
+no_marks : (done ping crypto : Bool) → (done || ping || crypto) ≡ false → marks_of done ping ≡ []
+no_marks true ping crypto h = cc
+no_marks false true crypto h = cc
+no_marks false false crypto h = refl
 
--- a frame waits
-abbrev is_wanted_here : SpaceWaiting → Bool
-is_wanted_here w = wants_here w || is_ack_owed w.acks
-
--- an ACK is all that is wanted, and has no room
-pub record Lacks (time : ℕ) (w : SpaceWaiting) (room : ℕ) : Type 0 where
-  pub ack : AckValue
-  pub says : SaysAck time w ack
-  pub long : room < length (frames_spelling (Ack ack ∷ []))
-
--- of two tests the first holds where the second doesn't
-or_left : (a b : Bool) → (a || b) ≡ true → b ≡ false → a ≡ true
-or_left true b h e = refl
-or_left false b h e = cc
-
-or_right : (a b : Bool) → (a || b) ≡ true → a ≡ false → b ≡ true
-or_right true b h e = cc
-or_right false b h e = h
-
-or_swap : (a b : Bool) → (a || b) ≡ true → (b || a) ≡ true
-or_swap true true h = refl
-or_swap true false h = refl
-or_swap false true h = refl
-or_swap false false h = h
-
--- an ACK that is left out leaves its room to CRYPTO bytes, where some wait
-left_out_some : (time room : ℕ) (w : SpaceWaiting) (crypto last : List FrameValue) (ack : AckValue) (c : Bool) → w.done ≡ false → w.ping ≡ false → SaysAck time w ack →
-    room - 0 < length (frames_spelling (Ack ack ∷ [])) → CryptoPart w (room - 0 - 0) crypto → (is_ack_owed w.acks || c) ≡ true → crypto_waits w ≡ c → 25 ≤ room →
-    (0 < length (crypto ++ last)) ⊎ Lacks time w room
-left_out_some time room w crypto last ack true g i says long part h e r =
-    let some : 0 < length crypto = crypto_some w (room - 0 - 0) crypto part e (omega arith) in
-    inl (omega (arith, length-append crypto last, some))
-left_out_some time room w crypto last ack false g i says long part h e r = inr (record { ack = ack; says = says; long = omega (arith, long) })
-
--- without marks
-behind_some : (time room : ℕ) (w : SpaceWaiting) (acks crypto last : List FrameValue) (b : Bool) → w.done ≡ false → w.ping ≡ false → AckPart time w (room - 0) acks b → is_ack_first w.acks ≡ b →
-    CryptoPart (without_all w acks) (room - 0 - length (frames_spelling acks)) crypto → (is_ack_owed w.acks || crypto_waits w) ≡ true → 25 ≤ room → (0 < length (acks ++ (crypto ++ last))) ⊎ Lacks time w room
-unfolding without_all
-behind_some time room w acks crypto last true g i (AckPart.one ack says fits is) first part h r = inl (subst (λ (x : List FrameValue). 0 < length (x ++ (crypto ++ last))) (sym is) (omega arith))
-behind_some time room w acks crypto last true g i (AckPart.left_out ack says long is) first part h r =
-    let bytes : CryptoPart w (room - 0 - 0) crypto = subst (λ (x : List FrameValue). CryptoPart (without_all w x) (room - 0 - length (frames_spelling x)) crypto) is part in
-    subst (λ (x : List FrameValue). (0 < length (x ++ (crypto ++ last))) ⊎ Lacks time w room) (sym is) (left_out_some time room w crypto last ack (crypto_waits w) g i says long bytes h refl r)
-behind_some time room w acks crypto last false g i (AckPart.none is) first part h r =
-    let bytes : CryptoPart w (room - 0 - 0) crypto = subst (λ (x : List FrameValue). CryptoPart (without_all w x) (room - 0 - length (frames_spelling x)) crypto) is part in
-    let some : 0 < length crypto = crypto_some w (room - 0 - 0) crypto bytes (or_right (is_ack_owed w.acks) (crypto_waits w) h (owed_first w.acks first)) (omega arith) in
-    inl (subst (λ (x : List FrameValue). 0 < length (x ++ (crypto ++ last))) (sym is) (omega (arith, length-append crypto last, some)))
-
--- with marks or without
-front_some : (time room : ℕ) (w : SpaceWaiting) (acks crypto last : List FrameValue) (a b : Bool) → w.done ≡ a → w.ping ≡ b →
-    AckPart time w (room - length (marks_of a b)) acks (is_ack_first w.acks) →
-    CryptoPart (without_all w (marks_of a b ++ acks))
-    (room - length (marks_of a b) - length (frames_spelling acks)) crypto →
-    ((a || b || crypto_waits w) || is_ack_owed w.acks) ≡ true → 25 ≤ room →
-    (0 < length (marks_of a b ++ (acks ++ (crypto ++ last)))) ⊎ Lacks time w room
-front_some time room w acks crypto last true b g i ack part h r = inl (omega arith)
-front_some time room w acks crypto last false true g i ack part h r = inl (omega arith)
-front_some time room w acks crypto last false false g i ack part h r =
-    behind_some time room w acks crypto last (is_ack_first w.acks) g i ack refl part (or_swap (crypto_waits w) (is_ack_owed w.acks) h) r
-
--- this end takes some frame, where one waits and there is room for more than the head of a CRYPTO frame; unless all that waits is an
--- ACK that has no room
-taken_some : (time : ℕ) (bundled : Option ℕ) (in_data : Bool) (w : SpaceWaiting) (room : ℕ) (fs : List FrameValue) → TakenPart time bundled in_data w room fs → is_wanted_here w ≡ true → 25 ≤ room →
-    (0 < length fs) ⊎ Lacks time w room
+marks_none : (w : SpaceWaiting) → wants_here w ≡ false → marks_part w ≡ []
 unfolding marks_part done_part ping_part
-taken_some time bundled in_data w room fs taken h r =
-    subst (λ (x : List FrameValue). (0 < length x) ⊎ Lacks time w room) (sym taken.all)
-    (front_some time room w taken.acks taken.crypto (taken.own ++ taken.last) w.done w.ping refl refl taken.ack taken.part h r)
+marks_none w h = no_marks w.done w.ping (crypto_waits w) h
+
+-- where an ACK is owed and nothing waits here that elicits one, it is taken, or has no room
+owed_or_long : (time : ℕ) (bundled : Option ℕ) (in_data : Bool) (w : SpaceWaiting) (room : ℕ) (fs : List FrameValue) → TakenPart time bundled in_data w room fs → wants_here w ≡ false → is_ack_owed w.acks ≡ true →
+    (list_any is_ack fs ≡ true) ⊎ IsLongAck time w room
+owed_or_long time bundled in_data w room fs taken none owed = by_ack (is_ack_first w.acks) refl taken.ack
+  where
+    by_ack : (b : Bool) → is_ack_first w.acks ≡ b → AckPart time w (room - length (marks_part w)) taken.acks b → (list_any is_ack fs ≡ true) ⊎ IsLongAck time w room
+    by_ack true e (AckPart.one ack says fits is) =
+        inl (ap (list_any is_ack) (taken.all ∙ ap (λ (xs : List FrameValue). xs ++ (taken.acks ++ (taken.crypto ++ (taken.own ++ taken.last)))) (marks_none w none)
+        ∙ ap (λ (xs : List FrameValue). xs ++ (taken.crypto ++ (taken.own ++ taken.last))) is))
+    by_ack true e (AckPart.left_out ack says long is) = inr (record { ack = ack; says = says; long = omega (arith, long, ap length (marks_none w none)) })
+    by_ack false e (AckPart.none is) = absurd (cc (owed, owed_first w.acks e))
 
 -- the ACK, where there is one, has no more bytes than there is room for
 pub ack_fits : (time room : ℕ) (w : SpaceWaiting) (acks : List FrameValue) (b : Bool) → AckPart time w room acks b → length (frames_spelling acks) ≤ room
@@ -335,16 +288,20 @@ module _ {t : Types} where
 
   -- what lists leave that are taken one behind the other
   taken_twice : (id : SpaceId) (fs gs : List FrameValue) (s : View t) → state_move (Take id gs) (state_move (Take id fs) s) ≡ state_move (Take id (fs ++ gs)) s
-  unfolding state_move numbers_move keys_move life_move paths_move timers_move waiting_move setup_move lower_move
+  unfolding state_move numbers_move keys_move life_move paths_move timers_move waiting_move setup_move lower_move frames_sealed streams_stepped datagrams_stepped ids_stepped
   taken_twice id fs gs s =
-      ap (λ (w : Waiting). record s { waiting = w; lower = frames_sealed gs (frames_sealed fs s.lower) }) (taken_twice_waiting id fs gs s)
-      ∙ ap (λ (l : Lower t.S). record s { waiting = waiting_without s.waiting id (fs ++ gs); lower = l }) (sym (frames_sealed_append fs gs s.lower))
+      let d : Datagrams = s.lower.datagrams in
+      let twice : Life = more_heard (told_by_all (sealed_datagrams gs) (posts.after (sealed_datagrams fs) d)) (more_heard (told_by_all (sealed_datagrams fs) d) s.life) in
+      ap (λ (w : Waiting). record s { waiting = w; life = twice; lower = frames_sealed gs (frames_sealed fs s.lower) }) (taken_twice_waiting id fs gs s)
+      ∙ ap (λ (v : Life). record s { waiting = waiting_without s.waiting id (fs ++ gs); life = v; lower = frames_sealed gs (frames_sealed fs s.lower) }) (told_twice fs gs d s.life)
+      ∙ ap (λ (l : Lower t.S). record s { waiting = waiting_without s.waiting id (fs ++ gs); life = more_heard (told_by_all (sealed_datagrams (fs ++ gs)) d) s.life; lower = l })
+      (sym (frames_sealed_append fs gs s.lower))
 
   nothing_taken : (id : SpaceId) (s : View t) → state_move (Take id []) s ≡ s
-  unfolding state_move numbers_move keys_move life_move paths_move timers_move waiting_move setup_move lower_move frames_sealed streams_stepped datagrams_stepped ids_stepped waiting_without without_all sealed_steps sealed_datagrams sealed_cids after posts.after ids.after
-  nothing_taken Initial s = refl
-  nothing_taken Handshake s = refl
-  nothing_taken Data s = refl
+  unfolding state_move numbers_move keys_move life_move paths_move timers_move waiting_move setup_move lower_move frames_sealed streams_stepped datagrams_stepped ids_stepped waiting_without without_all sealed_steps sealed_datagrams sealed_cids after posts.after ids.after told_by_all
+  nothing_taken Initial s = ap (λ (v : Life). record s { life = v }) (sym (same_heard s.life))
+  nothing_taken Handshake s = ap (λ (v : Life). record s { life = v }) (sym (same_heard s.life))
+  nothing_taken Data s = ap (λ (v : Life). record s { life = v }) (sym (same_heard s.life))
 
   -- joined lists wait, where the second one waits behind the first
   wait_append : (time : ℕ) (s : View t) (id : SpaceId) (fs gs : List FrameValue) → WaitAll time s id fs → WaitAll time (state_move (Take id fs) s) id gs → WaitAll time s id (fs ++ gs)
@@ -449,12 +406,22 @@ module _ {t : Types} where
       subst (λ (x : List FrameValue). WaitAll time s id x) (sym (taken.all ∙ simp append_assoc))
       (wait_append time s id (front ++ taken.own) taken.last own_all (here_all time u id taken.last last))
 
-  -- this end takes some frame, where there is room for more than the head of a CRYPTO frame; unless all that waits is an ACK that has no room
-  pub taken_any : (time : ℕ) (s : View t) (id : SpaceId) (room : ℕ) (fs : List FrameValue) → TakenPart time s.waiting.bundled (is_space id «Data») (space_of s.waiting.spaces id) room fs →
-      (0 < length fs) ⊎ OwesAckAlone s id → 25 ≤ room → (0 < length fs) ⊎ Lacks time (space_of s.waiting.spaces id) room
-  taken_any time s id room fs taken (inl some) r = inl some
-  taken_any time s id room fs taken (inr ack) r = taken_some time s.waiting.bundled (is_space id «Data») (space_of s.waiting.spaces id) room fs taken (wanted_here (wants_here (space_of s.waiting.spaces id)) ack.owed) r
+  -- among the frames that this end takes is something that is owed; or an ACK alone is owed, which has no room
+  pub taken_owed : (first : Bool) (time : ℕ) (s : View t) (id : SpaceId) (room : ℕ) (fs : List FrameValue) → TakenPart time s.waiting.bundled (is_space id «Data») (space_of s.waiting.spaces id) room fs →
+      (holds_owed s id fs ≡ true) ⊎ ((first ≡ true) × OwesAckAlone s id) → (holds_owed s id fs ≡ true) ⊎ ((first ≡ true) × LacksAckRoom time s id room)
+  unfolding holds_owed wants_sending
+  taken_owed first time s id room fs taken (inl some) = inl some
+  taken_owed first time s id room fs taken (inr alone) = by_part (owed_or_long time s.waiting.bundled (is_space id «Data») (space_of s.waiting.spaces id) room fs taken (none_here _ _ _ alone.1.alone) alone.1.owed)
     where
-      wanted_here : (b : Bool) → is_ack_owed (space_of s.waiting.spaces id).acks ≡ true → (b || is_ack_owed (space_of s.waiting.spaces id).acks) ≡ true
-      wanted_here true h = refl
-      wanted_here false h = h
+      none_here : (a b c : Bool) → ((a || b) || c) ≡ false → a ≡ false
+      none_here true b c h = cc
+      none_here false b c h = refl
+
+      both_some : (a b c : Bool) → b ≡ true → c ≡ true → (a || (b && c)) ≡ true
+      both_some true b c e f = refl
+      both_some false true c e f = f
+      both_some false false c e f = cc
+
+      by_part : (list_any is_ack fs ≡ true) ⊎ IsLongAck time (space_of s.waiting.spaces id) room → (holds_owed s id fs ≡ true) ⊎ ((first ≡ true) × LacksAckRoom time s id room)
+      by_part (inl held) = inl (both_some (list_any elicits fs) (is_ack_owed (space_of s.waiting.spaces id).acks) (list_any is_ack fs) alone.1.owed held)
+      by_part (inr long) = inr (alone.0, record { owed = alone.1.owed; alone = alone.1.alone; long = long })

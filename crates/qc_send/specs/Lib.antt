@@ -1,4 +1,7 @@
 pub mod Choosing
 pub mod Drawing
+pub mod Ending
 pub mod Failing
+pub mod Filling
+pub mod Joining
 pub mod Taking

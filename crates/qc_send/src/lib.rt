@@ -2,8 +2,11 @@
 #![tactic(auto)]
 
 mod closing;
+mod joining;
 mod owing;
+mod planning;
 mod sealing;
 mod sending;
+mod taking;
 
 pub use sending::transmit;

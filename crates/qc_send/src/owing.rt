@@ -1,21 +1,24 @@
 //! What is owed, in which space, and when nothing is sent.
 
-ghost use Rattle.std.specs.Prelude.{◌≡◌, ◌+◌, ◌-◌, ◌<◌, ◌≤◌, ◌^◌, ◌++◌, ◌||◌, [], ◌∷◌, ◌==◌, not, true, false, nat_lt, None, if◌then◌else◌};
+ghost use Rattle.std.specs.Prelude.{◌≡◌, ◌-◌, ◌<◌, ◌^◌, ◌==◌, not, false, nat_lt, None, IfOk};
 ghost use Rattle.qc_base.specs.declared.side.SpaceId.TheVariants.{Initial};
+ghost use Rattle.qc_state.specs.Acks.{IsLongAck, is_ack_owed};
 ghost use Rattle.qc_state.specs.Forms.{number_space};
+ghost use Rattle.qc_state.specs.Keys.{form_in};
 ghost use Rattle.qc_state.specs.Numbers.{acked_number, next_number};
 ghost use Rattle.qc_state.specs.Sending.{is_silent, owes_in, is_used_up, is_key_used_up, is_key_nearly_used_up, is_token_too_long, kill_in, room_of};
 ghost use Rattle.qc_state.specs.Spaces.{space_of};
 ghost use Rattle.qc_state.specs.View.{ideal};
-ghost use Rattle.qc_send.specs.Choosing.{first_owing, turn_of};
+ghost use Rattle.qc_send.specs.Choosing.{held_turn, turn_by, turn_in, turn_of};
 ghost use Rattle.qc_state.specs.declared.life.ConnectionError.TheVariants as lost;
 
 use crate::sealing::{GREATEST_CLOSE, frame_room};
-use qc_base::{SpaceId, TransportError, TransportErrorCode};
+use qc_base::{Instant, SpaceId, TransportError, TransportErrorCode};
 use qc_core::Core;
 use qc_core::stopping::key_limit_error;
 use qc_packet::NUMBER_LIMIT;
-use qc_state::{ConnectionError, DATAGRAM_SIZE, Form, Quiet, Suite};
+use qc_state::{Batch, ConnectionError, DATAGRAM_SIZE, Form, Means, Quiet, Suite};
+use std::alloc::{AllocError, Global};
 
 /// What a transmit begins with.
 #[derive(Clone, Copy)]
@@ -40,61 +43,81 @@ fn is_silent<U: Suite>(core: &Core<U>) -> bool
     !core.life.is_open() && !core.waiting.close_owed
 }
 
-/// Whether the space owes something: it has keys, and something waits in it; in a transmit that began with a close owed, where it
-/// sealed no packet since.
+/// Whether the space owes something in this transmit: it has keys, and something waits in it; behind a packet of its own, a frame that
+/// elicits an acknowledgement; in a transmit that began with a close owed, where it sealed no packet yet.
 #[tactic(auto, unfolding(qc_state::specs::Sending::owes_in))]
-fn owes_in<U: Suite>(core: &Core<U>, closing: bool, space: SpaceId) -> bool
-    ensures { result ≡ owes_in closing (ideal U.Random.stream core.now) space }
+pub(crate) fn owes_in<U: Suite>(core: &Core<U>, batch: &Batch, space: SpaceId) -> bool
+    ensures { result ≡ owes_in batch.now (ideal U.Random.stream core.now) space }
 {
     if !core.keys.has(space) {
         return false;
     }
-    if closing {
-        return !core.waiting.spaces.get(space).told;
+    if batch.closing {
+        return !batch.is_last_in(space);
+    }
+    if batch.is_last_in(space) {
+        return core.wants(space);
     }
     core.waits(space)
 }
 
-/// The first space that owes something. None where none does.
-#[tactic(auto, unfolding(crate::specs::Choosing::first_owing))]
-fn first_owing<U: Suite>(core: &Core<U>, closing: bool) -> Option<SpaceId>
-    ensures { result ≡ first_owing closing (ideal U.Random.stream core.now) }
+/// What a space that the window holds back leaves of what the spaces behind it begin with.
+fn held_turn(next: Turn) -> Turn
+    ensures { result ≡ held_turn next }
 {
-    if owes_in(core, closing, SpaceId::Initial) {
-        return Some(SpaceId::Initial);
+    match next {
+        Turn::Begins(space) => Turn::Begins(space),
+        Turn::Holds(_) => Turn::Holds(Quiet::Congestion),
     }
-    if owes_in(core, closing, SpaceId::Handshake) {
-        return Some(SpaceId::Handshake);
-    }
-    if owes_in(core, closing, SpaceId::Data) {
-        return Some(SpaceId::Data);
-    }
-    None
 }
 
-/// What a transmit now begins with.
+/// What a space that owes something begins with, by the limit that stands there: the window lets the next spaces have a try, for which
+/// `next` is what they begin with.
+fn turn_by(space: SpaceId, limit: Option<Quiet>, next: Turn) -> Turn
+    ensures { result ≡ turn_by space limit next }
+{
+    match limit {
+        None => Turn::Begins(space),
+        Some(Quiet::Congestion) => held_turn(next),
+        Some(quiet) => Turn::Holds(quiet),
+    }
+}
+
+/// What a transmit begins with from a space on: `next` is what the spaces behind it begin with.
+#[tactic(auto, unfolding(crate::specs::Choosing::turn_in))]
+fn turn_in<U: Suite>(
+    core: &Core<U>,
+    now: Instant,
+    batch: &Batch,
+    space: SpaceId,
+    next: Turn,
+) -> Turn
+    ensures { result ≡ turn_in ⟦<U as Means>⟧.meaning now (ideal U.Random.stream core.now) batch.now space next }
+{
+    if !owes_in(core, batch, space) {
+        return next;
+    }
+    turn_by(space, core.limit(now, batch, space), next)
+}
+
+/// What a transmit begins with.
 #[tactic(auto, unfolding(crate::specs::Choosing::turn_of))]
-pub(crate) fn turn_now<U: Suite>(core: &Core<U>) -> Turn
-    ensures { result ≡ turn_of (ideal U.Random.stream core.now) }
+pub(crate) fn turn_now<U: Suite>(core: &Core<U>, now: Instant, batch: &Batch) -> Turn
+    ensures { result ≡ turn_of ⟦<U as Means>⟧.meaning now (ideal U.Random.stream core.now) batch.now }
 {
     if is_silent(core) {
         return Turn::Holds(Quiet::Silent);
     }
-    match first_owing(core, core.waiting.close_owed) {
-        None => Turn::Holds(Quiet::NothingOwed),
-        Some(space) => {
-            if core.is_blocked() {
-                return Turn::Holds(Quiet::Amplification);
-            }
-            Turn::Begins(space)
-        }
-    }
+    let turn = Turn::Holds(Quiet::NothingOwed);
+    let turn = turn_in(core, now, batch, SpaceId::Data, turn);
+    let turn = turn_in(core, now, batch, SpaceId::Handshake, turn);
+    turn_in(core, now, batch, SpaceId::Initial, turn)
 }
 
 /// Whether no packet can spell the space's next number: it lies too far above the greatest acknowledged one, or is the
 /// greatest of all (RFC 9000, 12.3 and 17.1).
 #[tactic(auto, unfolding(qc_state::specs::Sending::is_used_up))]
-fn is_used_up<U: Suite>(core: &Core<U>, space: SpaceId) -> bool
+pub(crate) fn is_used_up<U: Suite>(core: &Core<U>, space: SpaceId) -> bool
     ensures { result ≡ is_used_up (ideal U.Random.stream core.now) space }
 {
     let number = core.numbers.coming(space);
@@ -168,6 +191,33 @@ pub(crate) fn kill<U: Suite>(core: &Core<U>, form: Form) -> Option<ConnectionErr
         return Some(ended_with(TransportErrorCode::PROTOCOL_VIOLATION));
     }
     None
+}
+
+/// Whether an ACK is owed in the space.
+pub(crate) fn owes_ack<U: Suite>(core: &Core<U>, space: SpaceId) -> bool
+    ensures { result ≡ is_ack_owed (space_of core.now.waiting.spaces space).acks }
+{
+    core.waiting.owes_ack(space)
+}
+
+/// Whether the ACK of the space at a time has so much room, where there is one. Want of memory is the only refusal.
+pub(crate) fn ack_fits<U: Suite>(
+    core: &Core<U>,
+    alloc: Global,
+    now: Instant,
+    space: SpaceId,
+    room: usize,
+) -> Result<bool, AllocError>
+    ensures { IfOk result (λ fits. fits ≡ false → IsLongAck now (space_of core.now.waiting.spaces space) room) }
+{
+    core.waiting.ack_fits(alloc, now, space, room)
+}
+
+/// The form in which packets of the space are sealed now.
+pub(crate) fn form_in<U: Suite>(core: &Core<U>, space: SpaceId) -> Form
+    ensures { result ≡ form_in core.now.keys space }
+{
+    core.keys.form_in(space)
 }
 
 /// The number of the space's next packet.

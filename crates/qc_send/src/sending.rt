@@ -1,27 +1,65 @@
-//! One transmit. So far it seals at most one packet, which has a datagram of its own.
+//! One transmit: datagrams of one size, but for the last one, and of one packet or more each.
 
-ghost use Rattle.std.specs.Prelude.{◌≡◌, ◌≤◌, [], length, OnOk, OnErr, IfOk};
+ghost use Rattle.std.specs.Prelude.{◌≡◌, ◌+◌, ◌≤◌, [], true, None, Some, length, OnOk, OnErr, IfOk};
+ghost use Rattle.qc_send.specs.Ending.{EndsSo, ending_of, held_if};
 ghost use Rattle.qc_send.specs.Failing.{pings_of};
+ghost use Rattle.qc_send.specs.Joining.{FallsTo, FilledIs, FollowIs, IsBelow, IsRoomy, LeavesFewer, MadeIs, MayTake, NextIs, OutcomeIs, follows, made_with, outcome_of};
+ghost use Rattle.qc_state.specs.Forms.{number_space};
+ghost use Rattle.qc_state.specs.Moves.{Say, move_to};
+ghost use Rattle.qc_state.specs.declared.deeds.Quiet.TheVariants.{Killed};
 ghost use Rattle.qc_state.specs.Offers.{path_size};
-ghost use Rattle.qc_state.specs.Sending.{MayBegin, SendsOne, Transmits, batch_begun, going};
+ghost use Rattle.qc_state.specs.Sending.{MayBegin, SendsAll, SendsOne, Transmits, batch_begun, ending_after, going, held_after, most_of, transmit_with};
+ghost use Rattle.qc_state.specs.Stopping.{killed_after};
 ghost use Rattle.qc_state.specs.View.{ideal, held};
 
-use crate::owing::{Turn, is_key_nearly_used_up, is_probe_due, kill, turn_now};
-use crate::sealing::{begin_packet, finish, seal, take, transmit_to};
-use qc_base::Instant;
+use crate::joining::{Further, find_further};
+use crate::owing::{Turn, form_in, is_key_nearly_used_up, kill, next_number, turn_now};
+use crate::planning::plan_packet;
+use crate::sealing::{begin, finish, frame_room, seal, transmit_to};
+use crate::taking::take;
+use qc_base::{Instant, SpaceId};
 use qc_core::Core;
 use qc_state::spaces::Spaces;
-use qc_state::{Batch, DATAGRAM_SIZE, Dids, Form, Means, Quiet, Suite, Transmit};
+use qc_state::{Batch, ConnectionError, DATAGRAM_SIZE, Dids, Form, Means, Quiet, Suite, Transmit};
 use std::alloc::{AllocError, Global};
 
-/// What is known of the datagrams of a transmit that begins.
-fn new_batch<U: Suite>(core: &Core<U>) -> Batch
-    ensures { result ≡ batch_begun core.now.waiting.close_owed (path_size (ideal U.Random.stream core.now)) }
-{
-    Batch::new(core.waiting.close_owed, DATAGRAM_SIZE)
+/// What follows a packet.
+#[derive(Drop)]
+pub(crate) enum Next {
+    /// A packet of this space joins its datagram.
+    Joins(SpaceId),
+    /// None joins it.
+    Full,
+    /// The connection ends for this reason: a packet was to begin that can't.
+    Dies(ConnectionError),
 }
 
-/// Seals one packet into an empty buffer, in a datagram that is begun for it.
+/// What follows a datagram.
+#[derive(Drop)]
+pub(crate) enum Outcome {
+    /// A packet of this space begins another one.
+    Begins(SpaceId),
+    /// The transmit ends, and perhaps the pacer holds another one back.
+    Ends(bool),
+    /// The connection ends for this reason.
+    Dies(ConnectionError),
+}
+
+/// What is known of the datagrams of a transmit that begins, which is asked for at most so many.
+#[tactic(auto, unfolding(qc_state::specs::Setup::ideal_setup))]
+fn new_batch<U: Suite>(core: &Core<U>, asked: u64) -> Batch
+    ensures { result ≡ batch_begun core.now.waiting.close_owed (most_of (ideal U.Random.stream core.now) asked) (path_size (ideal U.Random.stream core.now)) }
+{
+    let most = if core.setup.fixed.segmentation {
+        asked
+    } else {
+        1
+    };
+    Batch::new(core.waiting.close_owed, most, DATAGRAM_SIZE)
+}
+
+/// Seals one packet at the end of the buffer, in a datagram that begins with it, or that it joins. Answers which space's packet joins it. Want
+/// of memory is the only refusal.
 fn seal_packet<U: Suite>(
     core: &mut Core<U>,
     did: &mut Dids,
@@ -29,28 +67,179 @@ fn seal_packet<U: Suite>(
     now: Instant,
     batch: &mut Batch,
     form: Form,
+    opens: bool,
     buf: &mut Vec<u8>,
-) -> Result<(), AllocError>
-    requires begins { MayBegin batch.old.closing (ideal U.Random.stream core.old) form }
-    requires alone { batch.old.made ≡ 0 }
-    requires large { DATAGRAM_SIZE ≤ batch.old.segment }
-    requires most { batch.old.segment ≤ 16383 }
-    requires none { batch.old.total ≡ 0 }
-    requires empty { buf.old.items ≡ [] }
+) -> Result<Option<SpaceId>, AllocError>
+    requires begins { MayBegin ⟦<U as Means>⟧.meaning now (ideal U.Random.stream core.old) batch.old form opens }
+    requires roomy { IsRoomy batch.old (number_space form) opens }
+    requires full { length buf.old.items ≡ batch.old.total }
     ensures sends { OnOk result (SendsOne ⟦<U as Means>⟧.meaning now (going (held U.Random.stream core.old did.old) batch.old buf.old.items) (going (held U.Random.stream core.new did.new) batch.new buf.new.items)) }
-    ensures size { OnOk result (length buf.new.items ≡ batch.new.total) }
+    ensures next { IfOk result (λ next. FollowIs ⟦<U as Means>⟧.meaning now (ideal U.Random.stream core.new) batch.new next) }
+    ensures falls { IfOk result (λ next. IsBelow (number_space form) next) }
+    ensures made { OnOk result (batch.new.made ≡ made_with opens batch.old.made) }
+    ensures most { OnOk result (batch.new.most ≡ batch.old.most) }
+    ensures full { OnOk result (length buf.new.items ≡ batch.new.total) }
 {
     let nearly = is_key_nearly_used_up(core, form);
-    let probes = is_probe_due(core, form);
-    let closing = batch.closing;
-    begin_packet(core, form, true, did)?;
-    batch.open(true, probes);
-    let capacity = batch.capacity as usize;
-    let frames = take(core, alloc, now, closing, capacity, form)?;
-    let counts = seal(core, alloc, did, now, form, capacity, frames, buf)?;
-    core.fly_after(did, now, counts);
-    batch.grow(form, buf.len() as u64, nearly);
-    Ok(())
+    let first = batch.made == 0;
+    begin(core, did, batch, form, opens)?;
+    let left = batch.left();
+    let room = frame_room(core, left, form);
+    let number = next_number(core, form.space());
+    let frames = take(core, alloc, now, batch.closing, first, form, room)?;
+    let plan = plan_packet(core, alloc, now, batch, form, room, nearly, &frames)?;
+    let sealed = seal(
+        core, alloc, did, now, form, left, room, plan.least, frames, buf,
+    )?;
+    core.fly_after(did, now, sealed.size, sealed.counts);
+    batch.grow(
+        form,
+        number,
+        sealed.size,
+        sealed.padding,
+        sealed.fills,
+        nearly,
+    );
+    Ok(plan.next)
+}
+
+/// What follows a packet that was sealed.
+fn follows(next: Option<SpaceId>) -> Next
+    ensures { result ≡ follows next }
+{
+    match next {
+        None => Next::Full,
+        Some(space) => Next::Joins(space),
+    }
+}
+
+/// Seals one packet of this space, in a datagram that begins with it, or that it joins; or the connection ends, where the packet can't begin.
+/// Want of memory is the only refusal.
+fn packet_in<U: Suite>(
+    core: &mut Core<U>,
+    did: &mut Dids,
+    alloc: Global,
+    now: Instant,
+    batch: &mut Batch,
+    space: SpaceId,
+    opens: bool,
+    buf: &mut Vec<u8>,
+) -> Result<Next, AllocError>
+    requires takes { MayTake ⟦<U as Means>⟧.meaning now (ideal U.Random.stream core.old) batch.old space opens }
+    requires full { length buf.old.items ≡ batch.old.total }
+    ensures sends { OnOk result (SendsAll ⟦<U as Means>⟧.meaning now (going (held U.Random.stream core.old did.old) batch.old buf.old.items) (going (held U.Random.stream core.new did.new) batch.new buf.new.items)) }
+    ensures next { IfOk result (λ next. NextIs ⟦<U as Means>⟧.meaning now (ideal U.Random.stream core.new) batch.new next) }
+    ensures falls { IfOk result (λ next. FallsTo space next) }
+    ensures made { IfOk result (λ next. MadeIs (made_with opens batch.old.made) batch.new.made next) }
+    ensures most { OnOk result (batch.new.most ≡ batch.old.most) }
+    ensures full { OnOk result (length buf.new.items ≡ batch.new.total) }
+{
+    let form = form_in(core, space);
+    match kill(core, form) {
+        Some(why) => return Ok(Next::Dies(why)),
+        None => {}
+    }
+    let next = seal_packet(core, did, alloc, now, batch, form, opens, buf)?;
+    Ok(follows(next))
+}
+
+/// Seals one datagram, which begins with a packet of this space. Answers why the connection ends, where it does: a packet was to begin that
+/// can't. Want of memory is the only refusal.
+fn fill<U: Suite>(
+    core: &mut Core<U>,
+    did: &mut Dids,
+    alloc: Global,
+    now: Instant,
+    batch: &mut Batch,
+    first: SpaceId,
+    buf: &mut Vec<u8>,
+) -> Result<Option<ConnectionError>, AllocError>
+    requires takes { MayTake ⟦<U as Means>⟧.meaning now (ideal U.Random.stream core.old) batch.old first true }
+    requires full { length buf.old.items ≡ batch.old.total }
+    ensures sends { OnOk result (SendsAll ⟦<U as Means>⟧.meaning now (going (held U.Random.stream core.old did.old) batch.old buf.old.items) (going (held U.Random.stream core.new did.new) batch.new buf.new.items)) }
+    ensures ends { IfOk result (λ why. FilledIs ⟦<U as Means>⟧.meaning now (ideal U.Random.stream core.new) batch.new why) }
+    ensures made { IfOk result (λ why. why ≡ None → batch.new.made ≡ batch.old.made + 1) }
+    ensures most { OnOk result (batch.new.most ≡ batch.old.most) }
+    ensures full { OnOk result (length buf.new.items ≡ batch.new.total) }
+{
+    let mut space = first;
+    let mut opens = true;
+    loop {
+        let next = packet_in(core, did, alloc, now, batch, space, opens, buf)?;
+        match next {
+            Next::Joins(later) => {
+                space = later;
+                opens = false;
+            }
+            Next::Full => return Ok(None),
+            Next::Dies(why) => return Ok(Some(why)),
+        }
+    }
+}
+
+/// What follows a datagram that was sealed.
+fn outcome_of(further: Further) -> Outcome
+    ensures { result ≡ outcome_of further }
+{
+    match further {
+        Further::Begins(space) => Outcome::Begins(space),
+        Further::Paced => Outcome::Ends(true),
+        Further::Ends => Outcome::Ends(false),
+        Further::Passes => Outcome::Ends(false),
+    }
+}
+
+/// Seals one datagram, which begins with a packet of this space, and answers what follows it. Want of memory is the only refusal.
+fn datagram_in<U: Suite>(
+    core: &mut Core<U>,
+    did: &mut Dids,
+    alloc: Global,
+    now: Instant,
+    batch: &mut Batch,
+    space: SpaceId,
+    buf: &mut Vec<u8>,
+) -> Result<Outcome, AllocError>
+    requires takes { MayTake ⟦<U as Means>⟧.meaning now (ideal U.Random.stream core.old) batch.old space true }
+    requires full { length buf.old.items ≡ batch.old.total }
+    ensures sends { OnOk result (SendsAll ⟦<U as Means>⟧.meaning now (going (held U.Random.stream core.old did.old) batch.old buf.old.items) (going (held U.Random.stream core.new did.new) batch.new buf.new.items)) }
+    ensures next { IfOk result (λ outcome. OutcomeIs ⟦<U as Means>⟧.meaning now (ideal U.Random.stream core.new) batch.new outcome) }
+    ensures falls { IfOk result (λ outcome. LeavesFewer batch.old batch.new outcome) }
+    ensures full { OnOk result (length buf.new.items ≡ batch.new.total) }
+{
+    let dies = fill(core, did, alloc, now, batch, space, buf)?;
+    match dies {
+        Some(why) => return Ok(Outcome::Dies(why)),
+        None => {}
+    }
+    let found = find_further(core, alloc, now, batch)?;
+    Ok(outcome_of(found))
+}
+
+/// Where the pacer holds a datagram back, the connection wants to be called when it may go.
+#[tactic(auto, unfolding(qc_state::specs::Sending::held_after, qc_state::specs::Moves::move_to, qc_state::specs::Moves::deeds_move))]
+fn hold<U: Suite>(core: &mut Core<U>, did: &Dids, now: Instant, batch: &Batch, quiet: Quiet)
+    ensures { (held U.Random.stream core.new did.now) ≡ held_after ⟦<U as Means>⟧.meaning now quiet batch.now (held U.Random.stream core.old did.now) }
+{
+    match quiet {
+        Quiet::Pacing => {
+            let until = core.paced_until(now, batch.next_segment());
+            core.do_hold(until);
+        }
+        Quiet::NothingOwed
+        | Quiet::Silent
+        | Quiet::Amplification
+        | Quiet::Congestion
+        | Quiet::Killed => {}
+    }
+}
+
+/// So it is where the pacer holds another datagram back behind those that were sealed, as `paced` says.
+fn hold_if<U: Suite>(core: &mut Core<U>, did: &Dids, now: Instant, batch: &Batch, paced: bool)
+    ensures { (held U.Random.stream core.new did.now) ≡ held_if ⟦<U as Means>⟧.meaning now batch.now paced (held U.Random.stream core.old did.now) }
+{
+    if paced {
+        hold(core, did, now, batch, Quiet::Pacing);
+    }
 }
 
 /// In which spaces a PING waits.
@@ -74,59 +263,117 @@ fn put_back<U: Suite>(core: &mut Core<U>, pings: Spaces<bool>)
     core.waiting.spaces.application.ping = pings.application;
 }
 
-/// Seals what is due into an empty buffer, and says where it goes. None where nothing is sealed, for the cause that the
+/// The connection ends for this reason, and what was sealed goes nowhere. Want of memory is the only refusal.
+fn die<U: Suite>(
+    core: &mut Core<U>,
+    did: &mut Dids,
+    why: ConnectionError,
+    buf: &mut Vec<u8>,
+) -> Result<Option<Transmit>, AllocError>
+    ensures leads { OnOk result ((held U.Random.stream core.new did.new) ≡ move_to (Say Killed) (killed_after why (held U.Random.stream core.old did.old))) }
+    ensures none { IfOk result (λ sent. sent ≡ None) }
+    ensures empty { buf.new.items ≡ [] }
+{
+    buf.clear();
+    core.kill(did, why)?;
+    core.do_say(did, Quiet::Killed)?;
+    Ok(None)
+}
+
+/// A transmit ends that sealed packets; `paced` says that the pacer holds another datagram back. Want of memory is the only refusal.
+fn end<U: Suite>(
+    core: &mut Core<U>,
+    did: &mut Dids,
+    now: Instant,
+    batch: &Batch,
+    paced: bool,
+) -> Result<Option<Transmit>, AllocError>
+    ensures leads { OnOk result ((held U.Random.stream core.new did.new) ≡ ending_after ⟦<U as Means>⟧.meaning now (ending_of paced) batch.now (held U.Random.stream core.old did.old)) }
+    ensures sent { IfOk result (λ sent. sent ≡ Some (transmit_with (ideal U.Random.stream core.old) batch.now)) }
+{
+    let to = transmit_to(core, batch);
+    hold_if(core, did, now, batch, paced);
+    finish(core, did, now, *batch)?;
+    Ok(Some(to))
+}
+
+/// Seals datagrams, the first of which begins with a packet of this space. Want of memory is the only refusal.
+fn seal_all<U: Suite>(
+    core: &mut Core<U>,
+    alloc: Global,
+    now: Instant,
+    batch: &mut Batch,
+    first: SpaceId,
+    buf: &mut Vec<u8>,
+    did: &mut Dids,
+) -> Result<Option<Transmit>, AllocError>
+    requires takes { MayTake ⟦<U as Means>⟧.meaning now (ideal U.Random.stream core.old) batch.old first true }
+    requires full { length buf.old.items ≡ batch.old.total }
+    ensures { IfOk result (λ sent. EndsSo ⟦<U as Means>⟧.meaning now (going (held U.Random.stream core.old did.old) batch.old buf.old.items) (held U.Random.stream core.new did.new) sent buf.new.items) }
+{
+    let mut space = first;
+    loop {
+        let outcome = datagram_in(core, did, alloc, now, batch, space, buf)?;
+        match outcome {
+            Outcome::Begins(next) => space = next,
+            Outcome::Ends(paced) => {
+                let sent = end(core, did, now, batch, paced)?;
+                return Ok(sent);
+            }
+            Outcome::Dies(why) => {
+                let sent = die(core, did, why, buf)?;
+                return Ok(sent);
+            }
+        }
+    }
+}
+
+/// Seals what is due into an empty buffer, at most so many datagrams, and says where they go. None where nothing is sealed, for the cause that the
 /// last deed names. Want of memory is the only refusal, and then the buffer may be left with bytes, and a PING of a probe may wait.
 fn seal_due<U: Suite>(
     core: &mut Core<U>,
     alloc: Global,
     now: Instant,
+    asked: u64,
     buf: &mut Vec<u8>,
     did: &mut Dids,
 ) -> Result<Option<Transmit>, AllocError>
-    requires { buf.old.items ≡ [] }
-    ensures { IfOk result (λ sent. Transmits ⟦<U as Means>⟧.meaning now (held U.Random.stream core.old did.old) (held U.Random.stream core.new did.new) sent buf.new.items) }
+    requires some { 1 ≤ asked }
+    requires empty { buf.old.items ≡ [] }
+    ensures { IfOk result (λ sent. Transmits ⟦<U as Means>⟧.meaning now asked (held U.Random.stream core.old did.old) (held U.Random.stream core.new did.new) sent buf.new.items) }
 {
-    let space = match turn_now(core) {
+    let mut batch = new_batch(core, asked);
+    let space = match turn_now(core, now, &batch) {
         Turn::Holds(quiet) => {
+            hold(core, did, now, &batch, quiet);
             core.do_say(did, quiet)?;
             return Ok(None);
         }
         Turn::Begins(space) => space,
     };
-    let form = core.keys.form_in(space);
-    match kill(core, form) {
-        Some(why) => {
-            core.kill(did, why)?;
-            core.do_say(did, Quiet::Killed)?;
-            return Ok(None);
-        }
-        None => {}
-    }
-    let mut to = transmit_to(core, 0);
-    let mut batch = new_batch(core);
-    seal_packet(core, did, alloc, now, &mut batch, form, buf)?;
-    finish(core, did, now, batch)?;
-    to.size = buf.len();
-    Ok(Some(to))
+    let sent = seal_all(core, alloc, now, &mut batch, space, buf, did)?;
+    Ok(sent)
 }
 
-/// Seals what is due into an empty buffer, and says where it goes. None where nothing is sealed, for the cause that the
+/// Seals what is due into an empty buffer, at most so many datagrams, and says where they go. None where nothing is sealed, for the cause that the
 /// last deed names. Want of memory is the only refusal: then the buffer is empty, and a PING waits in the spaces where one waited
 /// before.
 pub fn transmit<U: Suite>(
     core: &mut Core<U>,
     alloc: Global,
     now: Instant,
+    max_datagrams: usize,
     buf: &mut Vec<u8>,
     did: &mut Dids,
 ) -> Result<Option<Transmit>, AllocError>
-    requires { buf.old.items ≡ [] }
-    ensures sends { IfOk result (λ sent. Transmits ⟦<U as Means>⟧.meaning now (held U.Random.stream core.old did.old) (held U.Random.stream core.new did.new) sent buf.new.items) }
+    requires some { 1 ≤ max_datagrams }
+    requires empty { buf.old.items ≡ [] }
+    ensures sends { IfOk result (λ sent. Transmits ⟦<U as Means>⟧.meaning now max_datagrams (held U.Random.stream core.old did.old) (held U.Random.stream core.new did.new) sent buf.new.items) }
     ensures cut_back { OnErr result (buf.new.items ≡ []) }
     ensures pings { OnErr result (pings_of core.new.waiting ≡ pings_of core.old.waiting) }
 {
     let pings = pings_of(core);
-    match seal_due(core, alloc, now, buf, did) {
+    match seal_due(core, alloc, now, max_datagrams as u64, buf, did) {
         Ok(sent) => Ok(sent),
         Err(refused) => {
             buf.clear();

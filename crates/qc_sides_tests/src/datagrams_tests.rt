@@ -121,7 +121,7 @@ fn long_ones_are_dropped_wherever_they_stand(rt: HostRuntime) -> Result<(), Fail
     datagrams.outgoing.clear();
     assert!(rt; datagrams.outgoing.first_len().is_none());
     assert_eq!(rt; datagrams.outgoing.space(1000), 968);
-    assert!(rt; datagrams.tell_room());
+    assert!(rt; datagrams.blocked);
     gives_what_was_queued();
     Ok(())
 }

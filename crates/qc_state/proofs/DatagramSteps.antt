@@ -13,7 +13,7 @@ use Rattle.qc_state.specs.Forms.{number_space}
 use Rattle.qc_state.specs.Life.{is_closed}
 use Rattle.qc_state.specs.Lower.{datagrams_stepped, frames_sealed, ids_stepped, streams_stepped}
 use Rattle.qc_state.specs.Moves.{Take, lower_move, state_move}
-use Rattle.qc_state.specs.Sending.{Carries, Closes, application_close, close_frame, closing_frame, padded, padding_of, told_close}
+use Rattle.qc_state.specs.Sending.{Carries, Closes, application_close, close_frame, closing_frame, told_close}
 use Rattle.qc_state.specs.Types.{Types}
 use Rattle.qc_state.specs.View.{View}
 use Rattle.qc_state.specs.declared.form.Form.{Form}
@@ -131,9 +131,8 @@ module _ {t : Types} where
 
   -- so it is with what a packet carries
   pub carried_oldest : (closing : Bool) (time : ℕ) (s : View t) (form : Form) (room : ℕ) (fs : List FrameValue) → Carries closing time s form room fs → AllOldest fs s.lower.datagrams
-  unfolding padded
-  carried_oldest closing time s form room fs (Carries.a_close owed gs holds is) =
-      oldest_none fs s.lower.datagrams (ap sealed_datagrams is ∙ datagrams_padded gs (padding_of s form gs) ∙ datagrams_close time s (number_space form) room gs holds)
-  carried_oldest closing time s form room fs (Carries.what_waits free gs wait some is) =
+  carried_oldest closing time s form room fs (Carries.a_close owed gs n holds is) =
+      oldest_none fs s.lower.datagrams (ap sealed_datagrams is ∙ datagrams_padded gs n ∙ datagrams_close time s (number_space form) room gs holds)
+  carried_oldest closing time s form room fs (Carries.what_waits free gs n wait is) =
       subst (λ (xs : List FrameValue). AllOldest xs s.lower.datagrams) (sym is)
-      (none_behind gs (replicate (padding_of s form gs) frames.Padding) s.lower.datagrams (datagrams_padding (padding_of s form gs)) (wait_oldest time s (number_space form) gs wait))
+      (none_behind gs (replicate n frames.Padding) s.lower.datagrams (datagrams_padding n) (wait_oldest time s (number_space form) gs wait))

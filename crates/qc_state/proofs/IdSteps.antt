@@ -14,7 +14,7 @@ use Rattle.qc_state.specs.Forms.{number_space}
 use Rattle.qc_state.specs.Life.{is_closed}
 use Rattle.qc_state.specs.Lower.{datagrams_stepped, frames_sealed, ids_stepped, streams_stepped}
 use Rattle.qc_state.specs.Moves.{Take, lower_move, state_move}
-use Rattle.qc_state.specs.Sending.{Carries, Closes, application_close, close_frame, closing_frame, padded, padding_of, told_close}
+use Rattle.qc_state.specs.Sending.{Carries, Closes, application_close, close_frame, closing_frame, told_close}
 use Rattle.qc_state.specs.Types.{Types}
 use Rattle.qc_state.specs.View.{View}
 use Rattle.qc_state.specs.declared.form.Form.{Form}
@@ -128,9 +128,8 @@ module _ {t : Types} where
 
   -- so it is with what a packet carries
   pub carried_next : (closing : Bool) (time : ℕ) (s : View t) (form : Form) (room : ℕ) (fs : List FrameValue) → Carries closing time s form room fs → AllNext fs s.lower.ids
-  unfolding padded
-  carried_next closing time s form room fs (Carries.a_close owed gs holds is) =
-      next_none fs s.lower.ids (ap sealed_cids is ∙ cids_padded gs (padding_of s form gs) ∙ cids_close time s (number_space form) room gs holds)
-  carried_next closing time s form room fs (Carries.what_waits free gs wait some is) =
+  carried_next closing time s form room fs (Carries.a_close owed gs n holds is) =
+      next_none fs s.lower.ids (ap sealed_cids is ∙ cids_padded gs n ∙ cids_close time s (number_space form) room gs holds)
+  carried_next closing time s form room fs (Carries.what_waits free gs n wait is) =
       subst (λ (xs : List FrameValue). AllNext xs s.lower.ids) (sym is)
-      (no_cid_behind gs (replicate (padding_of s form gs) frames.Padding) s.lower.ids (cids_padding (padding_of s form gs)) (wait_next time s (number_space form) gs wait))
+      (no_cid_behind gs (replicate n frames.Padding) s.lower.ids (cids_padding n) (wait_next time s (number_space form) gs wait))

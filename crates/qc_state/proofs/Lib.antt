@@ -2,6 +2,7 @@ pub mod Arrivals
 pub mod CryptoBytes
 pub mod DatagramSteps
 pub mod DatagramsTaken
+pub mod RoomTold
 pub mod IdSteps
 pub mod IdsSettled
 pub mod IdsTaken
@@ -18,6 +19,7 @@ pub mod OpenPackets
 pub mod PacketMoves
 pub mod Probed
 pub mod Progresses
+pub mod Quieted
 pub mod ReceivedMoves
 pub mod SealedSteps
 pub mod Telling

@@ -16,7 +16,7 @@ use Rattle.qc_state.specs.Forms.{number_space}
 use Rattle.qc_state.specs.Life.{is_closed}
 use Rattle.qc_state.specs.Lower.{datagrams_stepped, frames_sealed, ids_stepped, streams_stepped}
 use Rattle.qc_state.specs.Moves.{Take, lower_move, state_move}
-use Rattle.qc_state.specs.Sending.{Carries, Closes, application_close, close_frame, closing_frame, padded, padding_of, told_close}
+use Rattle.qc_state.specs.Sending.{Carries, Closes, application_close, close_frame, closing_frame, told_close}
 use Rattle.qc_state.specs.StreamFrames.{sealed_step, sealed_steps}
 use Rattle.qc_state.specs.Types.{Types}
 use Rattle.qc_state.specs.View.{View}
@@ -101,8 +101,7 @@ module _ {t : Types} where
 
   -- and what a packet carries
   pub carried_may : (closing : Bool) (time : ℕ) (s : View t) (form : Form) (room : ℕ) (fs : List FrameValue) → Carries closing time s form room fs → AllMay (sealed_steps fs) s.lower.streams
-  unfolding padded
-  carried_may closing time s form room fs (Carries.a_close owed gs holds is) =
-      none_may fs s.lower.streams (ap sealed_steps is ∙ sealed_padded gs (padding_of s form gs) ∙ sealed_close time s (number_space form) room gs holds)
-  carried_may closing time s form room fs (Carries.what_waits free gs wait some is) =
-      subst (λ (xs : List Step). AllMay xs s.lower.streams) (sym (ap sealed_steps is ∙ sealed_padded gs (padding_of s form gs))) (wait_may time s (number_space form) gs wait)
+  carried_may closing time s form room fs (Carries.a_close owed gs n holds is) =
+      none_may fs s.lower.streams (ap sealed_steps is ∙ sealed_padded gs n ∙ sealed_close time s (number_space form) room gs holds)
+  carried_may closing time s form room fs (Carries.what_waits free gs n wait is) =
+      subst (λ (xs : List Step). AllMay xs s.lower.streams) (sym (ap sealed_steps is ∙ sealed_padded gs n)) (wait_may time s (number_space form) gs wait)

@@ -1,7 +1,8 @@
--- What holds of each move of a transmit holds of the transmit; and each packet that it seals holds a close, once the connection has
--- closed.
-use Rattle.std.proofs.Common.{◌≡◌, ℕ, ◌≤◌, List, [], ◌∷◌, ◌++◌, replicate, refl, ap, sym, ◌∙◌, subst, Bool, true, false, Option, Some, None, if◌then◌else◌, arith}
-use Rattle.std.specs.Prelude.{◌||◌, ◌&&◌, is_none}
+-- What holds of each move of a transmit holds of the transmit, where of what the pacer spends and the controller is told is known what it
+-- is; and each packet that it seals holds a close, once the connection has closed.
+use Rattle.std.proofs.Common.{◌≡◌, ℕ, ◌+◌, ◌*◌, ◌≤◌, List, [], ◌∷◌, ◌++◌, replicate, refl, ap, sym, ◌∙◌, subst, Bool, true, false, Option, Some, None, if◌then◌else◌, arith}
+use Rattle.std.specs.Prelude.{◌||◌, ◌&&◌, is_none, not, nat_le}
+use Rattle.std.proofs.lemmas.Bool.Decides.{nat_tests}
 use Rattle.std.specs.List.{list_any}
 use Rattle.std.proofs.lemmas.List.Folds.{list_any-append}
 use Rattle.qc_base.specs.declared.side.Side.TheVariants.{Client}
@@ -10,7 +11,8 @@ use Rattle.qc_base.specs.declared.side.SpaceId.TheVariants.{Initial, Handshake, 
 use Rattle.qc_frame.specs.Frame.{FrameValue}
 use Rattle.qc_frame.specs.declared.frames.FrameOf.TheVariants.{Padding}
 use Rattle.qc_state.specs.declared.form.Form.{Form}
-use Rattle.qc_state.specs.declared.deeds.Quiet.TheVariants.{Killed}
+use Rattle.qc_state.specs.declared.deeds.Quiet.{Quiet}
+use Rattle.qc_state.specs.declared.deeds.Quiet.TheVariants.{NothingOwed, Silent, Amplification, Congestion, Pacing, Killed}
 use Rattle.qc_state.specs.declared.life.Close.{Close}
 use Rattle.qc_state.specs.declared.life.Close.TheVariants.{Connection, Application}
 use Rattle.qc_state.specs.declared.life.ConnectionError.{ConnectionError}
@@ -21,10 +23,11 @@ use Rattle.qc_state.specs.declared.keys.KeyGroup.{KeyGroup}
 use Rattle.qc_state.specs.Forms.{number_space}
 use Rattle.qc_state.specs.Keys.{has_keys, has_keys_for, reaches_limit, usage_of}
 use Rattle.qc_state.specs.Life.{rank_of, is_open, is_closed, is_drained}
-use Rattle.qc_state.specs.Moves.{Move, ClosesOnly, is_close, Arm, Begin, Forget, Give, Raise, Say, Seal, Shut, Skip, Take, MayMove, move_to, armed_with, Finish}
+use Rattle.qc_state.specs.Moves.{Move, ClosesOnly, is_close, Arm, Begin, Forget, Give, Raise, Say, Seal, Shut, Skip, Take, MayMove, move_to, armed_with, Finish, Hold, Spend}
 use Rattle.qc_state.specs.Numbers.{next_number}
+use Rattle.qc_state.specs.Paths.{is_blocked, is_blocked_behind}
 use Rattle.qc_state.specs.Recovering.{loss_time}
-use Rattle.qc_state.specs.Sending.{Carries, Choice, Closes, MayBegin, MayTransmit, application_close, begun_after, begun_view, close_frame, closing_frame, drops_initial, flown_after, initial_left, is_flown, is_key_used_up, is_used_up, is_token_too_long, kill_in, owes_in, packet_after, packet_size, padded, padding_of, sealed_in, spared_after, told_close, transmit_after, Sent, Ending, Went, Hushed, Died, ending_after, packets_after, Going, going_from, MayFollow, MayAll, MayEnd, handshake_left, finished_after, gone_after, begun_batch, room_in, room_of}
+use Rattle.qc_state.specs.Sending.{Carries, Choice, Closes, MayBegin, MayTransmit, application_close, begun_after, begun_view, close_frame, closing_frame, drops_initial, flown_after, initial_left, is_flown, is_key_used_up, is_used_up, is_token_too_long, kill_in, owes_in, packet_after, packet_size, sealed_in, spared_after, told_close, transmit_after, Sent, Ending, Went, Held, Hushed, Died, ending_after, packets_after, Going, going_from, MayFollow, MayAll, MayEnd, handshake_left, finished_after, gone_after, begun_batch, room_in, room_of, held_after, is_silent, limit_in, next_segment, paced_until, quiet_by, quiet_of, spent_after, told_sent}
 use Rattle.qc_state.specs.Stopping.{given_after, key_limit_error, killed_after, stopped_after}
 use Rattle.qc_state.specs.Types.{Types, Meaning}
 use Rattle.qc_state.specs.View.{View, At, at}
@@ -73,6 +76,7 @@ any_behind (f ∷ fs) gs h = any_more (is_close f) _ (any_behind fs gs h)
 abbrev pub IsPacketMove : {t : Types} → Move t → Type 0
 IsPacketMove (Begin id opens) = Unit {0}
 IsPacketMove Skip = Unit {0}
+IsPacketMove (Spend tokens) = Unit {0}
 IsPacketMove (Arm at) = Unit {0}
 IsPacketMove _ = ⊥
 
@@ -82,7 +86,8 @@ IsSending (Forget id) = Unit {0}
 IsSending (Shut time close) = Unit {0}
 IsSending (Raise to) = to ≡ state.Drained
 IsSending (Give why) = Unit {0}
-IsSending (Finish bytes) = Unit {0}
+IsSending (Hold until) = Unit {0}
+IsSending (Finish bytes control) = Unit {0}
 IsSending (Say q) = Unit {0}
 IsSending x = IsPacketMove x
 
@@ -92,9 +97,44 @@ of_packet (Forget id) h = absurd h
 of_packet (Shut time close) h = absurd h
 of_packet (Raise to) h = absurd h
 of_packet (Give why) h = absurd h
-of_packet (Finish bytes) h = absurd h
+of_packet (Hold until) h = absurd h
+of_packet (Finish bytes control) h = absurd h
 of_packet (Say q) h = absurd h
 of_packet _ h = h
+
+-- those beside the one by which the pacer spends, and by which the controller is told
+abbrev pub IsUntold : {t : Types} → Move t → Type 0
+IsUntold (Spend tokens) = ⊥
+IsUntold (Finish bytes control) = ⊥
+IsUntold x = IsSending x
+
+pub untold_sending : {t : Types} (x : Move t) → IsUntold x → IsSending x
+untold_sending (Spend tokens) h = absurd h
+untold_sending (Finish bytes control) h = absurd h
+untold_sending _ h = h
+
+-- those of a packet among them
+abbrev pub IsUnspent : {t : Types} → Move t → Type 0
+IsUnspent (Spend tokens) = ⊥
+IsUnspent x = IsPacketMove x
+
+unspent_packet : {t : Types} (x : Move t) → IsUnspent x → IsPacketMove x
+unspent_packet (Spend tokens) h = absurd h
+unspent_packet _ h = h
+
+unspent_untold : {t : Types} (x : Move t) → IsUnspent x → IsUntold x
+unspent_untold (Spend tokens) h = absurd h
+unspent_untold (Finish bytes control) h = absurd h
+unspent_untold x h = of_packet x h
+
+-- a datagram that the pacer holds back isn't held back by the end
+not_silent : (silent owes blocked : Bool) (held : Option Quiet) → quiet_by silent owes blocked held ≡ Some Pacing → silent ≡ false
+not_silent true owes blocked held h = cc
+not_silent false owes blocked held h = refl
+
+first_of_neither : (a b : Bool) → (a || b) ≡ false → a ≡ false
+first_of_neither true b h = cc
+first_of_neither false b h = refl
 
 -- where no limit stands, none of the three does
 none_stands : (key number room : Bool) (x y z : ConnectionError) → (if key then Some x else (if number then Some y else (if room then Some z else None))) ≡ None → (key ≡ false) × (number ≡ false) × (room ≡ false)
@@ -103,11 +143,34 @@ none_stands false true room x y z h = cc
 none_stands false false true x y z h = cc
 none_stands false false false x y z h = (refl, refl, refl)
 
+-- PADDING behind a close leaves it there
+padded_closes : (n : ℕ) (fs gs : List FrameValue) → fs ≡ gs ++ replicate n Padding → list_any is_close gs ≡ true → list_any is_close fs ≡ true
+padded_closes n fs gs is holds =
+    ap (list_any is_close) is ∙ list_any-append is_close gs (replicate n Padding) ∙ ap (λ (b : Bool). b || list_any is_close (replicate n Padding)) holds
+
+-- with fewer bytes the path is no sooner blocked
+fewer_block : (validated : Bool) (most bytes sent : ℕ) → (not validated && nat_le most (bytes + sent)) ≡ false → (not validated && nat_le most sent) ≡ false
+fewer_block true most bytes sent h = refl
+fewer_block false most bytes sent h = grind (arith, nat_tests)
+
 module _ {t : Types} where
   -- where a packet may begin, its key may seal one more, its number can be spelled, and its token isn't too long
   pub unlimited : (s : View t) (form : Form) → kill_in s form ≡ None → (is_key_used_up s form ≡ false) × (is_used_up s (number_space form) ≡ false) × (is_token_too_long s form ≡ false)
   unfolding kill_in
   unlimited s form h = none_stands _ _ _ _ _ _ h
+
+  -- a datagram that nothing holds back is begun on a path that isn't blocked, with the datagrams before it too
+  pub free_behind : (m : Meaning t) (time : ℕ) (s : View t) (b : Batch) (id : SpaceId) → limit_in m time s b id ≡ None → is_blocked_behind s.paths b.total ≡ false
+  unfolding limit_in
+  free_behind m time s b id h = free_by (is_blocked_behind s.paths b.total) _ refl h
+    where
+      free_by : (blocked : Bool) (held : Option Quiet) → is_blocked_behind s.paths b.total ≡ blocked → (if blocked then Some Amplification else held) ≡ None → is_blocked_behind s.paths b.total ≡ false
+      free_by true held e h = cc
+      free_by false held e h = e
+
+  pub free_unblocked : (m : Meaning t) (time : ℕ) (s : View t) (b : Batch) (id : SpaceId) → limit_in m time s b id ≡ None → is_blocked s.paths ≡ false
+  unfolding is_blocked is_blocked_behind
+  free_unblocked m time s b id h = fewer_block s.paths.current.validated (3 * s.paths.current.received) b.total s.paths.current.sent (free_behind m time s b id h)
 
   -- what is known of a packet with these frames as it is sealed, once it was begun
   pub record IsSealable (time : ℕ) (s : View t) (form : Form) (fs : List FrameValue) : Type 0 where
@@ -128,19 +191,13 @@ module _ {t : Types} where
   closes_close time s id room gs (Closes.closing acks part kept reason is) =
       ap (list_any is_close) is ∙ any_behind acks (closing_frame id kept s.life ∷ []) (any_first (closing_frame id kept s.life) [] (closing_closes id kept (is_closed s.life.state) s.life.close))
 
-  -- PADDING behind a close leaves it there
-  padded_closes : (s : View t) (form : Form) (fs gs : List FrameValue) → fs ≡ padded s form gs → list_any is_close gs ≡ true → list_any is_close fs ≡ true
-  unfolding padded
-  padded_closes s form fs gs is holds =
-      ap (list_any is_close) is ∙ list_any-append is_close gs (replicate (padding_of s form gs) Padding) ∙ ap (λ (b : Bool). b || list_any is_close (replicate (padding_of s form gs) Padding)) holds
-
   -- a packet that may follow holds a close, once the connection has closed
-  closes_only : (time : ℕ) (s : View t) (b : Batch) (p : Sent) → MayFollow time s b p → ClosesOnly (rank_of s.life.state) p.frames
-  closes_only time s b p may = carried_closes may.carries
+  closes_only : (m : Meaning t) (time : ℕ) (s : View t) (b : Batch) (p : Sent) → MayFollow m time s b p → ClosesOnly (rank_of s.life.state) p.frames
+  closes_only m time s b p may = carried_closes may.carries
     where
       carried_closes : Carries b.closing time (begun_view s (number_space p.form) p.opens) p.form (room_in (begun_batch s (number_space p.form) p.opens b) (begun_view s (number_space p.form) p.opens) p.form) p.frames → ClosesOnly (rank_of s.life.state) p.frames
-      carried_closes (Carries.a_close owed gs holds is) = λ r. padded_closes (begun_view s (number_space p.form) p.opens) p.form p.frames gs is (closes_close time (begun_view s (number_space p.form) p.opens) (number_space p.form) _ gs holds)
-      carried_closes (Carries.what_waits free gs wait some is) = λ r. absurd (omega (arith, r, open_rank s.life.state (may.begins.turn.unclosed free)))
+      carried_closes (Carries.a_close owed gs n holds is) = λ r. padded_closes n p.frames gs is (closes_close time (begun_view s (number_space p.form) p.opens) (number_space p.form) _ gs holds)
+      carried_closes (Carries.what_waits free gs n wait is) = λ r. absurd (omega (arith, r, open_rank s.life.state (may.begins.turn.unclosed free)))
 
   -- a packet has no more room than its datagram has bytes
   room_small : (b : Batch) (s : View t) (form : Form) → b.capacity ≤ 65527 → room_in b s form ≤ 65527
@@ -148,19 +205,19 @@ module _ {t : Types} where
   room_small b s form h = omega (arith, h)
 
   -- a space that owes something has keys
-  pub owing_keyed : (closing : Bool) (s : View t) (id : SpaceId) → owes_in closing s id ≡ true → has_keys s.keys id ≡ true
+  pub owing_keyed : (b : Batch) (s : View t) (id : SpaceId) → owes_in b s id ≡ true → has_keys s.keys id ≡ true
   unfolding owes_in
-  owing_keyed closing s id h = first_of_both (has_keys s.keys id) _ h
+  owing_keyed b s id h = first_of_both (has_keys s.keys id) _ h
 
   -- so there are keys for a packet that may be begun
-  pub begins_keyed : (closing : Bool) (s : View t) (form : Form) → MayBegin closing s form → has_keys_for s.keys form ≡ true
+  pub begins_keyed : (m : Meaning t) (time : ℕ) (s : View t) (b : Batch) (form : Form) (opens : Bool) → MayBegin m time s b form opens → has_keys_for s.keys form ≡ true
   unfolding has_keys
-  begins_keyed closing s form may = subst (λ (f : Form). has_keys_for s.keys f ≡ true) (sym may.now) (owing_keyed closing s (number_space form) may.turn.owed)
+  begins_keyed m time s b form opens may = subst (λ (f : Form). has_keys_for s.keys f ≡ true) (sym may.now) (owing_keyed b s (number_space form) may.turn.owed)
 
   -- what is known of a packet that may follow, once it was begun
-  sealable : (time : ℕ) (p : Sent) (a : At t) (b : Batch) → MayFollow time a.state b p → IsSealable time (begun_after (number_space p.form) p.opens a).state p.form p.frames
+  sealable : (m : Meaning t) (time : ℕ) (p : Sent) (a : At t) (b : Batch) → MayFollow m time a.state b p → IsSealable time (begun_after (number_space p.form) p.opens a).state p.form p.frames
   unfolding is_key_used_up
-  sealable time p a b may =
+  sealable m time p a b may =
       let room : ℕ = room_in (begun_batch a.state (number_space p.form) p.opens b) (begun_view a.state (number_space p.form) p.opens) p.form in
       let carries : Carries b.closing time (begun_after (number_space p.form) p.opens a).state p.form room p.frames =
       subst (λ (s : View t). Carries b.closing time s p.form room p.frames) (sym (begun_same (number_space p.form) p.opens a)) may.carries in
@@ -172,46 +229,58 @@ module _ {t : Types} where
         takes = carried_may b.closing time (begun_after (number_space p.form) p.opens a).state p.form _ p.frames carries;
         oldest = carried_oldest b.closing time (begun_after (number_space p.form) p.opens a).state p.form _ p.frames carries;
         next = carried_next b.closing time (begun_after (number_space p.form) p.opens a).state p.form _ p.frames carries;
-        closes = subst (λ (l : Life). ClosesOnly (rank_of l.state) p.frames) (sym (begun_life (number_space p.form) p.opens a)) (closes_only time a.state b p may);
+        closes = subst (λ (l : Life). ClosesOnly (rank_of l.state) p.frames) (sym (begun_life (number_space p.form) p.opens a)) (closes_only m time a.state b p may);
         fresh = subst (λ (k : KeyGroup t.H t.P). reaches_limit 0 (usage_of k p.form) ≡ false) (sym (begun_keys (number_space p.form) p.opens a)) (unlimited a.state p.form may.begins.fresh).0;
         alive = subst (λ (l : Life). is_drained l.state ≡ false) (sym (begun_life (number_space p.form) p.opens a)) may.begins.turn.alive;
-        keyed = subst (λ (k : KeyGroup t.H t.P). has_keys_for k p.form ≡ true) (sym (begun_keys (number_space p.form) p.opens a)) (begins_keyed b.closing a.state p.form may.begins);
+        keyed = subst (λ (k : KeyGroup t.H t.P). has_keys_for k p.form ≡ true) (sym (begun_keys (number_space p.form) p.opens a)) (begins_keyed m time a.state b p.form p.opens may.begins);
       }
 
--- what holds of no move, of two moves one after the other, of each move with which a packet is begun, where it may be made, and of the
--- two with which it is taken and sealed, holds of the packets of a transmit
-module _ {t : Types} (R : At t → At t → Type 0) (here : (a : At t) → R a a) (next : (a b c : At t) → R a b → R b c → R a c)
-    (move : (x : Move t) → IsPacketMove x → (a : At t) → MayMove x a.state → R a (move_to x a))
+-- what holds of no move, of two moves one after the other, of each move with which a packet is begun, where it may be made, of what the
+-- pacer spends, and of the two moves with which a packet is taken and sealed, holds of the packets of a transmit
+module _ {t : Types} (m : Meaning t) (R : At t → At t → Type 0) (here : (a : At t) → R a a) (next : (a b c : At t) → R a b → R b c → R a c)
+    (move : (x : Move t) → IsUnspent x → (a : At t) → MayMove x a.state → R a (move_to x a))
+    (spend : (time size : ℕ) (a : At t) → R a (spent_after m time size a))
     (seal : (time : ℕ) (form : Form) (fs : List FrameValue) (a : At t) → IsSealable time a.state form fs → R a (move_to (Seal time form (next_number a.state.numbers (number_space form)) (packet_size a.state form fs) fs) (move_to (Take (number_space form) fs) a))) where
-  -- the loss timer is set anew behind a packet in flight
-  flown : (time : ℕ) (counts : Bool) (a : At t) → R a (flown_after time counts a)
+  -- the pacer spends, and the loss timer is set anew behind a packet in flight
+  flown : (time size : ℕ) (counts : Bool) (a : At t) → R a (flown_after m time size counts a)
   unfolding armed_with MayMove
-  flown time true a = move (Arm (loss_time a.state false time)) tt a (record { blocked = false; time = time; set = refl })
-  flown time false a = here a
+  flown time size true a =
+      let b : At t = spent_after m time size a in
+      next a b _ (spend time size a) (move (Arm (loss_time b.state false time)) tt b (record { blocked = false; time = time; set = refl }))
+  flown time size false a = here a
 
   -- a packet is taken and sealed
-  sealed : (time : ℕ) (form : Form) (fs : List FrameValue) (a : At t) → IsSealable time a.state form fs → R a (sealed_in time form fs a)
+  sealed : (time : ℕ) (form : Form) (fs : List FrameValue) (a : At t) → IsSealable time a.state form fs → R a (sealed_in m time form fs a)
   unfolding sealed_in
   sealed time form fs a may =
       let b : At t = move_to (Seal time form (next_number a.state.numbers (number_space form)) (packet_size a.state form fs) fs) (move_to (Take (number_space form) fs) a) in
-      next a b _ (seal time form fs a may) (flown time (is_flown a.state fs) b)
+      next a b _ (seal time form fs a may) (flown time (packet_size a.state form fs) (is_flown a.state fs) b)
 
-  pub holds_packet : (m : Meaning t) (time : ℕ) (p : Sent) (g : Going t) → MayFollow time g.now.state g.batch p → R g.now (packet_after m time p g).now
+  packet_told : (time : ℕ) (p : Sent) (g : Going t) → MayFollow m time g.now.state g.batch p → R g.now (packet_after m time p g).now
   unfolding packet_after MayMove
-  holds_packet m time p g may =
+  packet_told time p g may =
       let b : At t = begun_after (number_space p.form) p.opens g.now in
       next g.now b _ (holds_begun R here next (number_space p.form) p.opens g.now (λ x. move (Begin (number_space p.form) p.opens) tt x tt) (λ x skips. move Skip tt x skips))
-      (sealed time p.form p.frames b (sealable time p g.now g.batch may))
+      (sealed time p.form p.frames b (sealable m time p g.now g.batch may))
 
-  pub holds_packets : (m : Meaning t) (time : ℕ) (ps : List Sent) (g : Going t) → MayAll m time g ps → R g.now (packets_after m time ps g).now
-  holds_packets m time [] g may = here g.now
-  holds_packets m time (p ∷ ps) g may =
+  pub packets_told : (time : ℕ) (ps : List Sent) (g : Going t) → MayAll m time g ps → R g.now (packets_after m time ps g).now
+  packets_told time [] g may = here g.now
+  packets_told time (p ∷ ps) g may =
       let h : Going t = packet_after m time p g in
-      next g.now h.now _ (holds_packet m time p g may.0) (holds_packets m time ps h may.1)
+      next g.now h.now _ (packet_told time p g may.0) (packets_told time ps h may.1)
 
--- and where it holds of each other move that a transmit makes too, it holds of how a transmit ends
+-- so it does where it holds of each spending, whatever is left
 module _ {t : Types} (R : At t → At t → Type 0) (here : (a : At t) → R a a) (next : (a b c : At t) → R a b → R b c → R a c)
-    (move : (x : Move t) → IsSending x → (a : At t) → MayMove x a.state → R a (move_to x a)) where
+    (move : (x : Move t) → IsPacketMove x → (a : At t) → MayMove x a.state → R a (move_to x a))
+    (seal : (time : ℕ) (form : Form) (fs : List FrameValue) (a : At t) → IsSealable time a.state form fs → R a (move_to (Seal time form (next_number a.state.numbers (number_space form)) (packet_size a.state form fs) fs) (move_to (Take (number_space form) fs) a))) where
+  pub holds_packets : (m : Meaning t) (time : ℕ) (ps : List Sent) (g : Going t) → MayAll m time g ps → R g.now (packets_after m time ps g).now
+  unfolding spent_after MayMove
+  holds_packets m time ps g may = packets_told m R here next (λ x p a h. move x (unspent_packet x p) a h) (λ at size a. move (Spend _) tt a tt) seal time ps g may
+
+-- what holds of no move, of two moves one after the other, and of each other move that a transmit makes, where it may be made, holds of an
+-- end and of what spares a key
+module _ {t : Types} (R : At t → At t → Type 0) (here : (a : At t) → R a a) (next : (a b c : At t) → R a b → R b c → R a c)
+    (move : (x : Move t) → IsUntold x → (a : At t) → MayMove x a.state → R a (move_to x a)) where
   given_by : (why : ConnectionError) (a : At t) (b : Bool) → is_none a.state.life.reason ≡ b → R a (if b then move_to (Give why) a else a)
   unfolding MayMove
   given_by why a true h = move (Give why) tt a (is_none_none a.state.life.reason h)
@@ -246,22 +315,64 @@ module _ {t : Types} (R : At t → At t → Type 0) (here : (a : At t) → R a a
   unfolding killed_after given_after MayMove
   killed why a h = next a (move_to (Raise state.Drained) a) _ (move (Raise state.Drained) refl a (low_rank a.state.life.state h)) (given_by why (move_to (Raise state.Drained) a) _ refl)
 
-  -- how a transmit ends
-  pub holds_ending : (time : ℕ) (e : Ending) (b : Batch) (a : At t) → MayEnd e a.state b → R a (ending_after time e b a)
+  -- the pacer holds a datagram back
+  held_by_pacer : (m : Meaning t) (time : ℕ) (b : Batch) (a : At t) → is_drained a.state.life.state ≡ false → R a (held_after m time Pacing b a)
+  unfolding held_after MayMove
+  held_by_pacer m time b a alive = move (Hold (paced_until m time a.state (next_segment b))) tt a alive
+
+  -- the pacer holds a datagram back, or doesn't
+  held : (m : Meaning t) (time : ℕ) (quiet : Quiet) (b : Batch) (a : At t) → quiet_of m time a.state b ≡ Some quiet → R a (held_after m time quiet b a)
+  unfolding held_after quiet_of is_silent MayMove
+  held m time Pacing b a h =
+      held_by_pacer m time b a (first_of_neither (is_drained a.state.life.state) _ (not_silent (is_silent a.state) _ _ _ h))
+  held m time NothingOwed b a h = here a
+  held m time Silent b a h = here a
+  held m time Amplification b a h = here a
+  held m time Congestion b a h = here a
+  held m time Killed b a h = here a
+
+-- and where it holds of what the controller is told, of how a transmit ends
+module _ {t : Types} (m : Meaning t) (R : At t → At t → Type 0) (here : (a : At t) → R a a) (next : (a b c : At t) → R a b → R b c → R a c)
+    (move : (x : Move t) → IsUntold x → (a : At t) → MayMove x a.state → R a (move_to x a))
+    (tell : (time : ℕ) (b : Batch) (a : At t) → R a (told_sent m time b a)) where
+  pub ending_told : (time : ℕ) (e : Ending) (b : Batch) (a : At t) → MayEnd m time e a.state b → R a (ending_after m time e b a)
   unfolding ending_after finished_after MayMove
-  holds_ending time Went b a may =
+  ending_told time Went b a may =
       let c : At t = handshake_left time b.shook a in
       let d : At t = spared_after time b.worn c in
-      next a c _ (left time b.shook a) (next c d _ (holds_spared time b.worn c) (move (Finish b.total) tt d tt))
-  holds_ending time (Hushed quiet) b a may = move (Say quiet) tt a tt
-  holds_ending time (Died why) b a may = let c : At t = killed_after why a in next a c _ (killed why a may.1.turn.alive) (move (Say Killed) tt c tt)
+      next a c _ (left R here next move time b.shook a) (next c d _ (holds_spared R here next move time b.worn c) (tell time b d))
+  ending_told time Held b a may =
+      let e : At t = held_after m time Pacing b a in
+      let c : At t = handshake_left time b.shook e in
+      let d : At t = spared_after time b.worn c in
+      next a e _ (held_by_pacer R here next move m time b a may.1.turn.alive) (next e c _ (left R here next move time b.shook e) (next c d _ (holds_spared R here next move time b.worn c) (tell time b d)))
+  ending_told time (Hushed quiet) b a may =
+      let c : At t = held_after m time quiet b a in
+      next a c _ (held R here next move m time quiet b a may.1) (move (Say quiet) tt c tt)
+  ending_told time (Died why) b a may = let c : At t = killed_after why a in next a c _ (killed R here next move why a may.turn.alive) (move (Say Killed) tt c tt)
+
+module _ {t : Types} (R : At t → At t → Type 0) (here : (a : At t) → R a a) (next : (a b c : At t) → R a b → R b c → R a c)
+    (move : (x : Move t) → IsSending x → (a : At t) → MayMove x a.state → R a (move_to x a)) where
+  pub holds_ending : (m : Meaning t) (time : ℕ) (e : Ending) (b : Batch) (a : At t) → MayEnd m time e a.state b → R a (ending_after m time e b a)
+  unfolding told_sent MayMove
+  holds_ending m time e b a may = ending_told m R here next (λ x s c h. move x (untold_sending x s) c h) (λ at batch c. move (Finish batch.total _) tt c tt) time e b a may
 
 -- and of a transmit
+module _ {t : Types} (m : Meaning t) (R : At t → At t → Type 0) (here : (a : At t) → R a a) (next : (a b c : At t) → R a b → R b c → R a c)
+    (move : (x : Move t) → IsUntold x → (a : At t) → MayMove x a.state → R a (move_to x a))
+    (spend : (time size : ℕ) (a : At t) → R a (spent_after m time size a))
+    (tell : (time : ℕ) (b : Batch) (a : At t) → R a (told_sent m time b a))
+    (seal : (time : ℕ) (form : Form) (fs : List FrameValue) (a : At t) → IsSealable time a.state form fs → R a (move_to (Seal time form (next_number a.state.numbers (number_space form)) (packet_size a.state form fs) fs) (move_to (Take (number_space form) fs) a))) where
+  pub transmit_told : (time asked : ℕ) (choice : Choice) (a : At t) → MayTransmit m time asked choice a → R a (transmit_after m time asked choice a)
+  unfolding MayTransmit transmit_after gone_after
+  transmit_told time asked choice a may =
+      let g : Going t = packets_after m time choice.packets (going_from asked a) in
+      next a g.now _ (packets_told m R here next (λ x p b h. move x (unspent_untold x p) b h) spend seal time choice.packets (going_from asked a) may.0) (ending_told m R here next move tell time choice.ending g.batch g.now may.1)
+
 module _ {t : Types} (R : At t → At t → Type 0) (here : (a : At t) → R a a) (next : (a b c : At t) → R a b → R b c → R a c)
     (move : (x : Move t) → IsSending x → (a : At t) → MayMove x a.state → R a (move_to x a))
     (seal : (time : ℕ) (form : Form) (fs : List FrameValue) (a : At t) → IsSealable time a.state form fs → R a (move_to (Seal time form (next_number a.state.numbers (number_space form)) (packet_size a.state form fs) fs) (move_to (Take (number_space form) fs) a))) where
-  pub holds_transmit : (m : Meaning t) (time : ℕ) (choice : Choice) (a : At t) → MayTransmit m time choice a → R a (transmit_after m time choice a)
-  unfolding MayTransmit transmit_after gone_after
-  holds_transmit m time choice a may =
-      let g : Going t = packets_after m time choice.packets (going_from a) in
-      next a g.now _ (holds_packets R here next (λ x p b h. move x (of_packet x p) b h) seal m time choice.packets (going_from a) may.0) (holds_ending R here next move time choice.ending g.batch g.now may.1)
+  pub holds_transmit : (m : Meaning t) (time asked : ℕ) (choice : Choice) (a : At t) → MayTransmit m time asked choice a → R a (transmit_after m time asked choice a)
+  unfolding spent_after told_sent MayMove
+  holds_transmit m time asked choice a may =
+      transmit_told m R here next (λ x s b h. move x (untold_sending x s) b h) (λ at size b. move (Spend _) tt b tt) (λ at batch b. move (Finish batch.total _) tt b tt) seal time asked choice a may

@@ -56,6 +56,12 @@ pub record SaysAck (time : ℕ) (w : SpaceWaiting) (ack : AckValue) : Type 0 whe
   pub fits : Fits (frames.Ack ack)
   pub shortest : ack.additional ≡ flat_map varint (numbers_of ack.additional)
 
+-- the ACK of a space at a time has more bytes than there is room for
+pub record IsLongAck (time : ℕ) (w : SpaceWaiting) (room : ℕ) : Type 0 where
+  pub ack : AckValue
+  pub says : SaysAck time w ack
+  pub long : room < length (frames_spelling (frames.Ack ack ∷ []))
+
 -- the ACK in a list of its own where one is due, else no frame; one that has more bytes than there is room for is left out
 pub data AckPart (time : ℕ) (w : SpaceWaiting) (room : ℕ) (fs : List FrameValue) : Bool → Type 0 where
   one : (ack : AckValue) → SaysAck time w ack → length (frames_spelling (frames.Ack ack ∷ [])) ≤ room → fs ≡ frames.Ack ack ∷ [] → AckPart time w room fs true

@@ -8,11 +8,13 @@ use Rattle.qc_datagrams.specs.declared.datagrams.SendRefusal.{SendRefusal}
 use Rattle.qc_datagrams.specs.declared.datagrams.SendRefusal.TheVariants as send
 use Rattle.qc_datagrams.specs.Datagrams.{is_refused}
 use Rattle.qc_datagrams.specs.Queue.{first}
-use Rattle.qc_datagrams.specs.Steps.{Step, Came, Sealed, after}
+use Rattle.qc_datagrams.specs.Steps.{Step, Came, Sealed, after, after_step}
 use Rattle.qc_frame.specs.Frame.{FrameValue}
 use Rattle.qc_frame.specs.FrameSpelling.{spelling}
 use Rattle.qc_frame.specs.declared.frames.FrameOf.TheVariants as frames
 use Rattle.qc_params.specs.declared.params.TransportParameters.{TransportParameters}
+use Rattle.qc_state.specs.declared.events.Event.{Event}
+use Rattle.qc_state.specs.declared.events.Event.TheVariants.{DatagramReceived, DatagramsUnblocked}
 use Rattle.qc_state.specs.declared.trace.Answer.{Answer}
 use Rattle.qc_state.specs.declared.trace.Answer.TheVariants as answer
 use Rattle.qc_state.specs.declared.trace.Refusal.TheVariants as refusal
@@ -41,6 +43,18 @@ sealed_datagram _ = []
 unfoldable pub sealed_datagrams : List FrameValue → List Step
 sealed_datagrams [] = []
 sealed_datagrams (f ∷ fs) = sealed_datagram f ++ sealed_datagrams fs
+
+-- what is told of a step to the application: that one came where none was queued before it; and that there is room again, where one is sealed
+-- and another had been refused before because of a full buffer
+abbrev pub told_by : Step → Datagrams → List Event
+told_by (Came body) d = if tells_datagram (frames.Datagram body) d then DatagramReceived ∷ [] else []
+told_by Sealed d = if d.blocked then DatagramsUnblocked ∷ [] else []
+told_by _ d = []
+
+-- what is told of steps, each as its turn comes
+unfoldable pub told_by_all : List Step → Datagrams → List Event
+told_by_all [] d = []
+told_by_all (x ∷ xs) d = told_by x d ++ told_by_all xs (after_step x d)
 
 -- a frame that is a DATAGRAM is the oldest that is to be sent
 abbrev pub IsOldest : FrameValue → Datagrams → Type 0

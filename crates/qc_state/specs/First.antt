@@ -49,11 +49,12 @@ fixed_of side version local_cid first_cid cid_lifetime preferred local_ip transp
   grease_quic_bit = grease_quic_bit;
   spins = spins_of transport.allow_spin words;
   key_phase_size = key_phase_of words;
+  segmentation = transport.enable_segmentation_offload;
 }
 
 -- a space in which nothing waits but these CRYPTO bytes
 abbrev pub nothing_waits : List ℕ → SpaceWaiting
-nothing_waits crypto = record { done = false; ping = false; crypto = bytes_written crypto nothing_written; acks = record { ranges = []; marks = no_marks }; marks = None; probes = 0; told = false }
+nothing_waits crypto = record { done = false; ping = false; crypto = bytes_written crypto nothing_written; acks = record { ranges = []; marks = no_marks }; marks = None; probes = 0 }
 
 -- what loss recovery keeps of a path that begins at a time, with this controller; no larger datagrams are looked for so far
 abbrev pub first_path : {C : Type 0} → Control C → TransportValues → C → (time : ℕ) → PathData C

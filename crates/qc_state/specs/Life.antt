@@ -99,6 +99,10 @@ connected_reported v = record v { connected = false }
 unfoldable pub datagram_heard : Bool → Life → Life
 datagram_heard tells v = if tells then record v { heard = v.heard ++ DatagramReceived ∷ [] } else v
 
+-- these events of datagrams are to be reported, behind what waits of datagrams
+abbrev pub more_heard : List Event → Life → Life
+more_heard events v = record v { heard = v.heard ++ events }
+
 -- the first that waits of datagrams was reported
 unfoldable pub heard_reported : Life → Life
 heard_reported v = record v { heard = drop 1 v.heard }

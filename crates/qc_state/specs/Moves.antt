@@ -29,6 +29,7 @@ use Rattle.qc_ids.specs.Expiries.{oldest_time}
 use Rattle.qc_ids.specs.LocalCids.{may_retire}
 use Rattle.qc_path.specs.Acks.{next_bundle}
 use Rattle.qc_path.specs.Arrived.{arrived}
+use Rattle.qc_path.specs.Pacing.{Bucket}
 use Rattle.qc_path.specs.RoundTrips.{estimate}
 use Rattle.qc_path.specs.declared.pending_acks.Arrival.{Arrival}
 use Rattle.qc_state.specs.declared.waiting.Waiting.{Waiting}
@@ -44,7 +45,7 @@ use Rattle.qc_state.specs.declared.deeds.Verdict.TheVariants as verdict
 use Rattle.qc_recovery.specs.Steps.{After, FiredAfter, path_dropped}
 use Rattle.qc_state.specs.Acks.{is_ack}
 use Rattle.qc_state.specs.Draws.{word}
-use Rattle.qc_state.specs.Life.{rank_of, is_open, is_closed, is_drained, reason_given, life_raised, life_closed, life_drained, life_established, data_ready, token_learned, identifiers_wanted, retirement_told, token_told, ready_reported, connected_reported, datagram_heard, heard_reported, all_heard_reported, lost_reported, notice_reported, notices_reported, drained_reported}
+use Rattle.qc_state.specs.Life.{rank_of, is_open, is_closed, is_drained, reason_given, life_raised, life_closed, life_drained, life_established, data_ready, token_learned, identifiers_wanted, retirement_told, token_told, ready_reported, connected_reported, datagram_heard, more_heard, heard_reported, all_heard_reported, lost_reported, notice_reported, notices_reported, drained_reported}
 use Rattle.qc_state.specs.Numbers.{next_number, received_number, number_used, number_skipped, is_skipped, is_new_in, came_in, number_entered, number_accepted, number_acked}
 use Rattle.qc_state.specs.Forms.{is_early, number_space}
 use Rattle.qc_state.specs.Keys.{NewKeys, NoKeys, HandshakeKeys, DataKeys, epoch_in, has_keys_for, key_used, failure_counted, keys_given, keys_dropped}
@@ -52,7 +53,7 @@ use Rattle.qc_state.specs.Flight.{flown_packet}
 use Rattle.qc_state.specs.Ids.{active_limit, fired_ids, lost_ids}
 use Rattle.qc_state.specs.Lower.{bytes_came, frames_sealed, ids_stepped, session_read, session_wrote, flight_dropped, packet_flown, packets_settled, timer_fired, streams_stepped, datagrams_stepped, frame_handed, limits_learned, streams_closed, event_told, events_told}
 use Rattle.qc_state.specs.Offers.{packet_begun}
-use Rattle.qc_state.specs.Paths.{is_blocked, path_idle, path_sent, path_received, path_accepted, path_kept, path_named, path_spun, peer_fixed}
+use Rattle.qc_state.specs.Paths.{is_blocked, path_quiet, path_sent, path_received, path_accepted, path_kept, path_named, path_spun, peer_fixed}
 use Rattle.qc_state.specs.Recovering.{loss_time, probe_timeout_now}
 use Rattle.qc_state.specs.Setup.{idle_limit_now, packet_drawn, parameters_known, peer_delay, token_expected, word_drawn}
 use Rattle.qc_state.specs.Spaces.{is_space}
@@ -61,8 +62,8 @@ use Rattle.qc_state.specs.StreamFrames.{acked_steps, fired_steps, lost_steps, se
 use Rattle.qc_streams.specs.Steps.{AllMay, MayStep}
 use Rattle.qc_streams.specs.Waits as streams
 use Rattle.qc_datagrams.specs.Steps as datagrams
-use Rattle.qc_state.specs.Datagrams.{tells_datagram}
-use Rattle.qc_state.specs.Timers.{timers_sealed, timers_acking, timers_stopped, timers_closing, timers_accepted, timers_holding, timers_paced, timers_released, timers_issued, timers_outlived, timers_armed, clock_set}
+use Rattle.qc_state.specs.Datagrams.{sealed_datagrams, tells_datagram, told_by_all}
+use Rattle.qc_state.specs.Timers.{timers_sealed, timers_acking, timers_stopped, timers_closing, timers_accepted, timers_holding, timers_paced, timers_held, timers_released, timers_issued, timers_outlived, timers_armed, clock_set}
 use Rattle.qc_state.specs.Types.{Types}
 use Rattle.qc_state.specs.View.{View, At, at}
 use Rattle.qc_state.specs.Waiting.{ping_asked, done_asked, waiting_without, close_begun, packet_told, packet_came, packets_acked, packets_lost, fired_in, crypto_written, space_left, holds_back, ack_released, bundle_next}
@@ -135,7 +136,7 @@ is_call _ = false
 abbrev pub is_post : datagrams.Step → Bool
 is_post (datagrams.Came d) = false
 is_post datagrams.Taken = true
-is_post (datagrams.Sent most d) = true
+is_post (datagrams.Sent most drops d) = true
 is_post datagrams.Sealed = false
 
 -- the deeds, told one after another
@@ -185,7 +186,9 @@ pub data Move (t : Types) : Type 0 where
   Shut : (time : ℕ) → (close : Close) → Move t  -- this end closes
   Raise : (to : State) → Move t  -- the life rises
   Give : (why : ConnectionError) → Move t  -- a reason for the end is given
-  Finish : (bytes : ℕ) → Move t  -- a transmit ends that sealed packets: so many bytes go to the path's address
+  Spend : (tokens : Bucket) → Move t  -- a packet that counts as in flight is taken out of the pacer's tokens
+  Hold : (until : Option ℕ) → Move t  -- the pacer holds a datagram back until a time
+  Finish : (bytes : ℕ) → (control : t.C) → Move t  -- a transmit ends that sealed packets: so many bytes go to the path's address, and the controller is told
   Say : (quiet : Quiet) → Move t  -- a transmit sends nothing, for this cause
   Hand : (frame : FrameValue) → Move t  -- the streams or the datagrams are handed a frame, which they may refuse
   Insert : (new : NewConnectionId) → Move t  -- the ids are handed a NEW_CONNECTION_ID, which they may refuse
@@ -235,6 +238,7 @@ module _ {t : Types} where
   life_move (Retire time n) s =
       if may_retire n s.lower.ids.local then retirement_told s.life time n (asks_one (active_limit s.setup.peer) n s.lower.ids) else s.life
   life_move (Raise to) s = life_raised s.life to
+  life_move (Take id fs) s = more_heard (told_by_all (sealed_datagrams fs) s.lower.datagrams) s.life
   life_move (Hand frame) s = datagram_heard (tells_datagram frame s.lower.datagrams) s.life
   life_move (Give why) s = reason_given s.life why
   life_move ReportReady s = ready_reported s.life
@@ -248,7 +252,8 @@ module _ {t : Types} where
   life_move _ s = s.life
 
   unfoldable pub paths_move : Move t → View t → Paths t.C
-  paths_move (Finish bytes) s = path_sent s.paths bytes
+  paths_move (Spend tokens) s = path_kept s.paths (record s.paths.current.kept { pacing = tokens })
+  paths_move (Finish bytes control) s = path_sent (path_kept s.paths (record s.paths.current.kept { congestion = control })) bytes
   paths_move (Fix cid) s = peer_fixed s.paths cid
   paths_move (Insert new) s = path_named s.paths (active_of (ids.after_step (ids.NewCame new) s.lower.ids).remote)
   paths_move Switch s = path_named s.paths (active_of (ids.after_step ids.Switched s.lower.ids).remote)
@@ -258,7 +263,7 @@ module _ {t : Types} where
   paths_move (Forget id) s = path_kept s.paths (path_dropped id s.paths.current.kept)
   paths_move (Ack id n r) s = path_kept s.paths r.path
   paths_move (Fire r) s = path_kept s.paths r.path
-  paths_move (Say q) s = path_idle s.paths
+  paths_move (Say q) s = path_quiet s.paths q
   paths_move _ s = s.paths
 
   unfoldable pub timers_move : Move t → View t → Timers
@@ -269,6 +274,7 @@ module _ {t : Types} where
       timers_holding (timers_accepted s.timers (idle_limit_now s.setup) (probe_timeout_now s id) time)
       (holds_back s.waiting id (arrived n (came_in s.numbers id)) (arrival_of time n e g)) time
   timers_move Pace s = timers_paced s.timers
+  timers_move (Hold until) s = timers_held s.timers until
   timers_move Release s = timers_released s.timers
   timers_move (Arm at) s = timers_armed s.timers at
   timers_move (Issue time given) s =
@@ -284,7 +290,7 @@ module _ {t : Types} where
   waiting_move (Take id fs) s = waiting_without s.waiting id fs
   waiting_move (Begin id opens) s = (packet_begun id opens s).waiting
   waiting_move (Seal time form n size fs) s =
-      bundle_next (packet_told s.waiting (number_space form) (is_space (number_space form) s.keys.highest)) fs (next_bundle time (estimate s.paths.current.kept.rtt) (peer_delay s.setup.peer))
+      bundle_next (packet_told s.waiting (is_space (number_space form) s.keys.highest)) fs (next_bundle time (estimate s.paths.current.kept.rtt) (peer_delay s.setup.peer))
   waiting_move (Forget id) s = space_left s.waiting id
   waiting_move (Accept time id n e g v) s = packet_came s.waiting id (arrived n (came_in s.numbers id)) (arrival_of time n e g) g.mark
   waiting_move (Write bytes keys session) s = crypto_written s.waiting s.keys.highest bytes
@@ -388,6 +394,7 @@ module _ {t : Types} where
   MayMove PeerClosesToo s = is_closed s.life.state ≡ true
   MayMove Owe s = is_open s.life.state ≡ false
   MayMove (Raise to) s = rank_of s.life.state < rank_of to
+  MayMove (Hold until) s = is_drained s.life.state ≡ false
   MayMove (Give why) s = s.life.reason ≡ None
   MayMove _ s = Unit {0}
 

@@ -7,7 +7,7 @@ use Rattle.qc_base.specs.declared.side.SpaceId.{SpaceId}
 use Rattle.qc_flight.specs.Packets.{first_of}
 use Rattle.qc_flight.specs.declared.sent.SentPacket.{SentPacket}
 use Rattle.qc_recovery.specs.Steps as recovery
-use Rattle.qc_base.specs.declared.side.SpaceId.TheVariants.{«Data»}
+use Rattle.qc_base.specs.declared.side.SpaceId.TheVariants.{Initial, Handshake, «Data»}
 use Rattle.qc_state.specs.Acks.{is_ack_owed}
 use Rattle.qc_state.specs.Datagrams.{first_fits}
 use Rattle.qc_state.specs.Ids.{again_ids, ids_want, lost_cids}
@@ -43,15 +43,20 @@ module _ {t : Types} where
   abbrev pub path_size : View t → ℕ
   path_size s = DATAGRAM_SIZE
 
-  -- how much room for frames a datagram of the path has, behind the header of a 1-RTT packet with the number that comes next, and before
-  -- its tag of 16 bytes (RFC 9000, section 17.3.1)
-  unfoldable pub datagram_room : View t → ℕ
-  datagram_room s = path_size s - 16 - (1 + length s.paths.current.remote_cid + number_len (number_of (coming_number s.numbers «Data») (acked_number s.numbers «Data»)))
+  -- how much room for frames a 1-RTT packet of so many bytes has, behind its header with the number that comes next, and before its tag of
+  -- 16 bytes (RFC 9000, section 17.3.1)
+  unfoldable pub short_room : (left : ℕ) → View t → ℕ
+  short_room left s = left - 16 - (1 + length s.paths.current.remote_cid + number_len (number_of (coming_number s.numbers «Data») (acked_number s.numbers «Data»)))
 
-  -- a DATAGRAM waits in the space, whose frames go in 1-RTT packets: the first one fits alone into a datagram of the path
+  -- the first DATAGRAM that waits has so much room in a packet of the space: they go in 1-RTT packets
+  abbrev pub datagram_fits : SpaceId → (room : ℕ) → View t → Bool
+  datagram_fits Initial room s = false
+  datagram_fits Handshake room s = false
+  datagram_fits Data room s = first_fits room s.lower.datagrams.outgoing
+
+  -- a DATAGRAM waits in the space: the first one fits alone into a datagram of the path
   unfoldable pub datagram_waits : SpaceId → View t → Bool
-  datagram_waits «Data» s = first_fits (datagram_room s) s.lower.datagrams.outgoing
-  datagram_waits _ s = false
+  datagram_waits id s = datagram_fits id (short_room (path_size s) s) s
 
   -- something waits there: such a frame, a DATAGRAM, an ACK that is owed, or a probe that is due
   unfoldable pub waits_in : View t → SpaceId → Bool

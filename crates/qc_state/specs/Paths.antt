@@ -1,5 +1,5 @@
 -- The paths to the peer (RFC 9000, section 9).
-use Rattle.std.specs.Prelude.{ℕ, ◌*◌, List, Bool, true, false, ◌&&◌, ◌==◌, not, nat_eq, nat_le, if◌then◌else◌, Option, Some, None}
+use Rattle.std.specs.Prelude.{ℕ, ◌+◌, ◌*◌, List, Bool, true, false, ◌&&◌, ◌==◌, not, nat_eq, nat_le, if◌then◌else◌, Option, Some, None}
 use Rattle.std.specs.Cmp.Lexicographic.{pointwise}
 use Rattle.std.specs.Net.Addr.{ipv4_octets, ipv6_segments}
 use Rattle.std.specs.Net.Socket.{v4_ip, v4_port, v6_ip, v6_port, v6_flowinfo, v6_scope_id}
@@ -11,6 +11,8 @@ use Rattle.qc_base.specs.declared.side.Side.TheVariants.{Client, Server}
 use Rattle.qc_base.specs.declared.side.SpaceId.{SpaceId}
 use Rattle.qc_base.specs.declared.side.SpaceId.TheVariants.{Handshake}
 use Rattle.qc_recovery.specs.declared.path.PathData.{PathData}
+use Rattle.qc_state.specs.declared.deeds.Quiet.{Quiet}
+use Rattle.qc_state.specs.declared.deeds.Quiet.TheVariants.{NothingOwed, Silent, Amplification, Congestion, Pacing, Killed}
 use Rattle.qc_state.specs.declared.deeds.Verdict.{Verdict}
 use Rattle.qc_state.specs.declared.deeds.Verdict.TheVariants.{Admitted}
 use Rattle.qc_state.specs.declared.paths.Path.{Path}
@@ -28,9 +30,15 @@ only_path path peer_cid = record { current = path; previous = None; peer_cid = p
 unfoldable pub path_sent : {C : Type 0} → Paths C → ℕ → Paths C
 path_sent v bytes = record v { current = record v.current { sent = plus v.current.sent bytes }; app_limited = false }
 
--- a transmit sent nothing: what there is to send holds sending back, not the window of the congestion controller
-unfoldable pub path_idle : {C : Type 0} → Paths C → Paths C
-path_idle v = record v { app_limited = true }
+-- a transmit sent nothing, for this cause: what there is to send holds sending back, not the congestion controller (RFC 9002, section 7.8), but
+-- where the controller does; the call that ends the connection says nothing of it
+unfoldable pub path_quiet : {C : Type 0} → Paths C → Quiet → Paths C
+path_quiet v NothingOwed = record v { app_limited = true }
+path_quiet v Silent = record v { app_limited = true }
+path_quiet v Amplification = record v { app_limited = true }
+path_quiet v Congestion = record v { app_limited = false }
+path_quiet v Pacing = record v { app_limited = false }
+path_quiet v Killed = v
 
 -- so many bytes came from the path's address
 unfoldable pub path_received : {C : Type 0} → Paths C → ℕ → Paths C
@@ -80,6 +88,10 @@ path_kept v kept = record v { current = record v.current { kept = kept } }
 -- 9000, section 8.1); the last datagram may go past that
 unfoldable pub is_blocked : {C : Type 0} → Paths C → Bool
 is_blocked v = not v.current.validated && nat_le (3 * v.current.received) v.current.sent
+
+-- so it is with so many bytes more, which were sent there and aren't counted yet
+unfoldable pub is_blocked_behind : {C : Type 0} → Paths C → (bytes : ℕ) → Bool
+is_blocked_behind v bytes = not v.current.validated && nat_le (3 * v.current.received) (bytes + v.current.sent)
 
 -- whether two addresses are one, flow label and scope included
 unfoldable pub same_address : SocketAddr → SocketAddr → Bool

@@ -72,7 +72,7 @@ word_of (Identifiers time ids) = word.Identifiers
 -- what a transmit answers
 abbrev pub out_of : Option transmit.Transmit → List ℕ → Answer
 out_of None bytes = Nothing
-out_of (Some sent) bytes = Out sent.destination None sent.ecn bytes
+out_of (Some sent) bytes = Out sent.destination sent.segment_size sent.ecn bytes
 
 module _ {t : Types} where
   -- how long a datagram of the application may be, where the peer takes any: it goes in a 1-RTT packet alone, in a datagram of the path
@@ -97,10 +97,10 @@ module _ {t : Types} where
   unfoldable pub input_after : Meaning t → Input → Choice → At t → At t
   input_after m (Datagram time remote ecn bytes) choice a = datagram_after m (record { time = time; remote = remote; mark = ecn }) bytes a
   input_after m (Timeout time) choice a = timeout_after m time a
-  input_after m (Transmit time max) choice a = transmit_after m time choice a
+  input_after m (Transmit time max) choice a = transmit_after m time max choice a
   input_after m (Close time code reason) choice a = close_after time code reason a
   input_after m (Ping time) choice a = move_to (Ask a.state.keys.highest) a
-  input_after m (SendDatagram time body) choice a = move_to (Post (datagrams.Sent (datagram_limit a.state) body)) a
+  input_after m (SendDatagram time body) choice a = move_to (Post (datagrams.Sent (datagram_limit a.state) true body)) a
   input_after m (RecvDatagram time) choice a = move_to (Post datagrams.Taken) a
   input_after m (Identifiers time ids) choice a = move_to (Issue time ids) a
   input_after m i choice a = called_all (calls_of i choice.read a.state.lower.streams) a
@@ -118,14 +118,14 @@ module _ {t : Types} where
 
   -- what an input may do, once its call has begun
   unfoldable pub IsAllowed : Meaning t → Input → Choice → At t → Type 0
-  IsAllowed m (Transmit time max) choice a = MayTransmit m time choice a
+  IsAllowed m (Transmit time max) choice a = MayTransmit m time max choice a
   IsAllowed m (Identifiers time ids) choice a = give_refusal ids a.state.lower.ids ≡ None
   IsAllowed m i choice a = MayRead i choice.read a.state.lower.streams
 
   -- what an input answers
   unfoldable pub answer_of : Meaning t → Input → Choice → At t → Answer
   answer_of m (Datagram time remote ecn bytes) choice a = if is_taken m a.state remote bytes then Done else Dropped
-  answer_of m (Transmit time max) choice a = out_of (transmit_of m time choice a) (transmit_bytes m time choice a)
+  answer_of m (Transmit time max) choice a = out_of (transmit_of m time max choice a) (transmit_bytes m time max choice a)
   answer_of m (SendDatagram time body) choice a = sent_answer (send_refusal (datagram_limit a.state) true body a.state.lower.datagrams)
   answer_of m (RecvDatagram time) choice a = taken_answer a.state.lower.datagrams.incoming
   answer_of m i choice a = call_answer i choice.read a.state.lower.streams

@@ -1,7 +1,6 @@
 -- What a transmit may send, and what it leaves: a list of packets, each a step of what is carried along, and an ending. Which packets
--- there are, and which of the waiting frames each carries, is free; all else is a function of that choice. So far a transmit seals at
--- most one packet, in a datagram of its own.
-use Rattle.std.specs.Prelude.{min, ◌≡◌, ℕ, ◌+◌, ◌-◌, ◌<◌, ◌≤◌, ◌^◌, ◌==◌, ◌⊎◌, Bool, true, false, ◌||◌, ◌&&◌, not, nat_lt, nat_le, if◌then◌else◌, List, [], ◌∷◌, ◌++◌, length, replicate, Option, Some, None, Result}
+-- there are, in which datagrams, and which of the waiting frames each carries, is free; all else is a function of that choice.
+use Rattle.std.specs.Prelude.{min, is_some, ◌≡◌, ℕ, ◌+◌, ◌-◌, ◌<◌, ◌≤◌, ◌^◌, ◌==◌, ◌⊎◌, Bool, true, false, ◌||◌, ◌&&◌, not, nat_lt, nat_le, if◌then◌else◌, List, [], ◌∷◌, ◌++◌, length, replicate, Option, Some, None, Result}
 use Rattle.std.specs.List.{list_any}
 use Rattle.qc_base.specs.declared.ecn.EcnCodepoint.TheVariants.{Ect0}
 use Rattle.qc_base.specs.declared.side.LongType.TheVariants as long
@@ -19,12 +18,18 @@ use Rattle.qc_header.specs.HeaderSpelling.{header_spelling}
 use Rattle.qc_header.specs.declared.header.Header.{Header}
 use Rattle.qc_header.specs.declared.header.Header.TheVariants as header
 use Rattle.qc_packet.specs.declared.slot.Slot.{Slot}
-use Rattle.qc_packet.specs.Building.{padded_size}
-use Rattle.qc_packet.specs.PacketSpelling.{sealed_packet, padding_len}
+use Rattle.qc_packet.specs.Building.{min_size_of}
+use Rattle.qc_packet.specs.PacketSpelling.{sealed_packet}
+use Rattle.qc_path.specs.Pacing.{pacing_delay, packet_paced, refilled}
+use Rattle.qc_path.specs.RoundTrips.{estimate}
+use Rattle.qc_path.specs.declared.controller.Controller.{Ghosts as Control}
+use Rattle.qc_path.specs.declared.pacer.PathRate.{PathRate}
+use Rattle.qc_recovery.specs.declared.path.PathData.{PathData}
+use Rattle.qc_recovery.specs.Steps.{all_bytes}
 use Rattle.qc_recv.specs.declared.recv.Chunk.{Chunk}
 use Rattle.qc_streams.specs.declared.fault.ReadFault.{ReadFault}
 use Rattle.qc_state.specs.declared.deeds.Quiet.{Quiet}
-use Rattle.qc_state.specs.declared.deeds.Quiet.TheVariants.{NothingOwed, Silent, Amplification, Killed}
+use Rattle.qc_state.specs.declared.deeds.Quiet.TheVariants.{NothingOwed, Silent, Amplification, Congestion, Pacing, Killed}
 use Rattle.qc_state.specs.declared.form.Form.{Form}
 use Rattle.qc_state.specs.declared.form.Form.TheVariants as form
 use Rattle.qc_state.specs.declared.keys.KeyUse.{KeyUse}
@@ -36,17 +41,17 @@ use Rattle.qc_state.specs.declared.life.Life.{Life}
 use Rattle.qc_state.specs.declared.transmit.Batch.{Batch}
 use Rattle.qc_state.specs.declared.transmit.Transmit.{Transmit}
 use Rattle.qc_state.specs.declared.transmit.TheConstants.{DATAGRAM_SIZE}
-use Rattle.qc_state.specs.Forms.{number_space}
+use Rattle.qc_state.specs.Forms.{is_one_rtt, number_space}
 use Rattle.qc_state.specs.Keys.{form_in, has_keys, header_key, packet_key, phase_now, reaches_limit, usage_of}
 use Rattle.qc_state.specs.Life.{is_open, is_closed, is_drained}
-use Rattle.qc_state.specs.Acks.{AckPart, SaysAck, is_ack_owed, may_acknowledge}
+use Rattle.qc_state.specs.Acks.{AckPart, IsLongAck, is_ack, is_ack_owed, may_acknowledge}
 use Rattle.qc_state.specs.Allowed.{WaitAll}
 use Rattle.qc_state.specs.Draws.{bit}
 use Rattle.qc_state.specs.Flight.{counts_in_flight}
-use Rattle.qc_state.specs.Moves.{Begin, Skip, Seal, Take, Forget, Finish, Say, move_to, armed_with}
+use Rattle.qc_state.specs.Moves.{Begin, Skip, Seal, Take, Forget, Finish, Hold, Say, Spend, move_to, armed_with}
 use Rattle.qc_state.specs.Numbers.{next_number, coming_number, is_skipped, acked_number}
-use Rattle.qc_state.specs.Offers.{datagram_waits, path_size, waits_in, wants_sending}
-use Rattle.qc_state.specs.Paths.{is_blocked}
+use Rattle.qc_state.specs.Offers.{datagram_fits, datagram_waits, path_size, waits_in, wants_sending}
+use Rattle.qc_state.specs.Paths.{is_blocked_behind}
 use Rattle.qc_state.specs.Spaces.{is_space, space_of}
 use Rattle.qc_state.specs.Setup.{behind_spin, takes_grease}
 use Rattle.qc_state.specs.Stopping.{key_limit_error, killed_after, stopped_after, violation_at}
@@ -102,9 +107,11 @@ pub record Sent : Type 0 where
   pub opens : Bool
   pub frames : List FrameValue
 
--- how a transmit ends: what it sealed goes; or it seals nothing, for this cause; or the connection ends, for this reason
+-- how a transmit ends: what it sealed goes, and perhaps the pacer holds a further datagram back; or it seals nothing, for this cause; or
+-- the connection ends, for this reason
 pub data Ending : Type 0 where
   Went : Ending
+  Held : Ending
   Hushed : (quiet : Quiet) → Ending
   Died : (why : ConnectionError) → Ending
 
@@ -114,44 +121,147 @@ pub record Choice : Type 0 where
   pub ending : Ending
   pub read : Result (Option Chunk) ReadFault
 
--- why a transmit seals nothing, where the connection goes on: the end came before, or no space owes anything, or the path is blocked;
--- the first of these counts
-abbrev pub quiet_by : (silent owes blocked : Bool) → Option Quiet
-quiet_by true owes blocked = Some Silent
-quiet_by false false blocked = Some NothingOwed
-quiet_by false true true = Some Amplification
-quiet_by false true false = None
+-- what holds back a datagram that a packet of a space would begin, on a path that isn't blocked: nothing where no frame waits there that they
+-- hold back, else the window, or the pacer
+abbrev pub held_in : (eager congested paced : Bool) → Option Quiet
+held_in false congested paced = None
+held_in true true paced = Some Congestion
+held_in true false true = Some Pacing
+held_in true false false = None
+
+-- why a transmit seals nothing of what is owed, on a path that isn't blocked: the window holds back all that is owed, or the pacer what is
+-- owed first. `eager` says that in each space that owes something a frame waits that they hold back, and `first` that in the first one.
+abbrev pub held_by : (congested eager paced first : Bool) → Option Quiet
+held_by true true paced first = Some Congestion
+held_by true false paced first = None
+held_by false eager true true = Some Pacing
+held_by false eager true false = None
+held_by false eager false first = None
+
+-- why a transmit seals nothing, where the connection goes on: the end came before, or no space owes anything, or the path is blocked, or the
+-- datagram is held back; the first of these counts
+abbrev pub quiet_by : (silent owes blocked : Bool) → (held : Option Quiet) → Option Quiet
+quiet_by true owes blocked held = Some Silent
+quiet_by false false blocked held = Some NothingOwed
+quiet_by false true true held = Some Amplification
+quiet_by false true false held = held
 
 -- what a transmit gives that ends so: its datagrams, where they go
 abbrev pub bytes_out : Ending → List ℕ → List ℕ
 bytes_out Went bytes = bytes
+bytes_out Held bytes = bytes
 bytes_out (Hushed quiet) bytes = []
 bytes_out (Died why) bytes = []
 
 -- and where they go
 abbrev pub sent_out : Ending → Transmit → Option Transmit
 sent_out Went sent = Some sent
+sent_out Held sent = Some sent
 sent_out (Hushed quiet) sent = None
 sent_out (Died why) sent = None
 
--- what is known of a transmit that begins, with a close owed or without one, on a path whose datagrams have at most so many bytes
-abbrev pub batch_begun : (closing : Bool) → (segment : ℕ) → Batch
-batch_begun closing segment = record { closing = closing; made = 0; segment = segment; capacity = 0; filled = 0; total = 0; worn = false; shook = false }
+-- what is known of a transmit of at most so many datagrams that begins, with a close owed or without one, on a path whose datagrams have
+-- at most so many bytes
+abbrev pub batch_begun : (closing : Bool) → (most segment : ℕ) → Batch
+batch_begun closing most segment = record {
+  closing = closing;
+  most = most;
+  made = 0;
+  segment = segment;
+  capacity = 0;
+  filled = 0;
+  padding = 0;
+  short = false;
+  fills = false;
+  total = 0;
+  space = None;
+  last = 0;
+  worn = false;
+  shook = false;
+}
 
 -- how many bytes the next datagram may have: what the path takes, and behind the first one what that one has
 abbrev pub next_segment : Batch → ℕ
 next_segment b = if b.made == 1 then b.filled else b.segment
 
+-- whether the last packet is one of this space
+abbrev pub is_last_in : Option SpaceId → SpaceId → Bool
+is_last_in None id = false
+is_last_in (Some last) id = is_space last id
+
+-- whether a packet of this space may stand behind the last one: spaces go in their order
+abbrev pub is_in_order : Option SpaceId → SpaceId → Bool
+is_in_order None id = true
+is_in_order (Some Initial) id = true
+is_in_order (Some Handshake) Initial = false
+is_in_order (Some Handshake) Handshake = true
+is_in_order (Some Handshake) Data = true
+is_in_order (Some «Data») Initial = false
+is_in_order (Some «Data») Handshake = false
+is_in_order (Some «Data») Data = true
+
+-- whether a further packet joins the open datagram: there is one, whose last packet says where it ends, and 103 bytes are left
+abbrev pub takes_another : Batch → Bool
+takes_another b = nat_lt 0 b.made && (not b.short && nat_le 103 (b.capacity - b.filled))
+
+-- no packet need join the open datagram: there is none, or its last packet is one that says not where it ends, or fewer than 128 bytes are
+-- left beside its PADDING
+abbrev pub is_done : Batch → Bool
+is_done b = b.made == 0 || (b.short || nat_lt (b.capacity - (b.filled - b.padding)) 128)
+
+-- another datagram may stand behind the open one: it has as many bytes as each but the last is to have
+abbrev pub is_whole : Batch → Bool
+is_whole b = b.made == 0 || b.filled == next_segment b
+
+-- the open datagram is filled up, where it is to be
+unfoldable pub is_closed_up : Batch → Bool
+is_closed_up b = not b.fills || nat_le DATAGRAM_SIZE b.filled
+
+-- where a packet opens a datagram, the one before it has the size of the others, and is filled up where it is to be
+abbrev pub IsBehind : Batch → (opens : Bool) → Type 0
+IsBehind b true = (is_whole b && is_closed_up b) ≡ true
+IsBehind b false = Unit {0}
+
+-- the size of each datagram but the last, where there are several
+abbrev pub segment_of : Batch → Option ℕ
+segment_of b = if nat_lt 1 b.made then Some b.segment else None
+
 -- a packet is begun; a datagram begins with it, or it joins one. A datagram for a probe has at most the size that others are filled up
 -- to.
 unfoldable pub batch_opened : (opens : Bool) → (probes : Bool) → Batch → Batch
 batch_opened opens probes b =
-    if opens then record b { made = plus b.made 1; segment = next_segment b; capacity = if probes then min DATAGRAM_SIZE (next_segment b) else next_segment b; filled = 0 }
+    if opens then record b {
+      made = plus b.made 1;
+      segment = next_segment b;
+      capacity = if probes then min DATAGRAM_SIZE (next_segment b) else next_segment b;
+      filled = 0;
+      padding = 0;
+      short = false;
+      fills = false;
+    }
     else b
 
--- a packet of this space and size was sealed, whose key could seal only two packets more before, or more
-unfoldable pub batch_grown : SpaceId → (size : ℕ) → (nearly : Bool) → Batch → Batch
-batch_grown id size nearly b = record b { filled = plus b.filled size; total = plus b.total size; worn = nearly; shook = b.shook || is_space id Handshake }
+-- a packet of this form was sealed, with this number, so many bytes, and so many of PADDING among them, which fills up its datagram or
+-- doesn't, and whose key could seal only two packets more before, or more
+unfoldable pub batch_grown : Form → (number size padding : ℕ) → (fills nearly : Bool) → Batch → Batch
+batch_grown form number size padding fills nearly b =
+    record b {
+      filled = plus b.filled size;
+      padding = plus b.padding padding;
+      short = b.short || is_one_rtt form;
+      fills = b.fills || fills;
+      total = plus b.total size;
+      space = Some (number_space form);
+      last = number;
+      worn = nearly;
+      shook = b.shook || is_space (number_space form) Handshake;
+    }
+
+-- how many of these frames are PADDING
+abbrev pub padding_in : List FrameValue → ℕ
+padding_in [] = 0
+padding_in (frames.Padding ∷ fs) = 1 + padding_in fs
+padding_in (_ ∷ fs) = padding_in fs
 
 -- how far a transmit has come: the view with the deeds so far, what is known of its datagrams, and their bytes
 pub record Going (t : Types) : Type 0 where
@@ -187,25 +297,73 @@ fills Client Initial eliciting = true
 fills Server Initial eliciting = eliciting
 fills _ _ eliciting = false
 
+-- what the pace of a path follows from: its congestion window, its round trip time, and the size of its datagrams
+abbrev pub path_rate : {C : Type 0} → Control C → PathData C → PathRate
+path_rate m p = record { window = m.window_of p.congestion; rtt = estimate p.rtt; mtu = p.mtud.current }
+
 module _ {t : Types} where
   -- nothing is sent: the connection has ended, or has closed and owes no close
   unfoldable pub is_silent : View t → Bool
   is_silent s = is_drained s.life.state || (not (is_open s.life.state) && not s.waiting.close_owed)
 
-  -- a space with keys owes what waits there; in a transmit that began with a close owed, it owes a packet that tells it, unless it
-  -- sealed one since
-  unfoldable pub owes_in : (closing : Bool) → View t → SpaceId → Bool
-  owes_in closing s id = has_keys s.keys id && (if closing then not (space_of s.waiting.spaces id).told else waits_in s id)
+  -- a frame waits in a space that elicits an acknowledgement
+  abbrev pub wants_in : View t → SpaceId → Bool
+  wants_in s id = wants_sending s id || datagram_waits id s
 
-  -- no space before this one owes anything
-  unfoldable pub is_first_in_turn : (closing : Bool) → View t → SpaceId → Bool
-  is_first_in_turn closing s Initial = true
-  is_first_in_turn closing s Handshake = not (owes_in closing s Initial)
-  is_first_in_turn closing s Data = not (owes_in closing s Initial) && not (owes_in closing s Handshake)
+  -- a space with keys owes what waits there. Behind a packet of its own it owes frames that elicit an acknowledgement alone: its ACK
+  -- went with that packet, or had no room, and a probe alone begins no second one. In a transmit that began with a close owed, it owes one
+  -- packet that tells it.
+  unfoldable pub owes_in : Batch → View t → SpaceId → Bool
+  owes_in b s id = has_keys s.keys id && (if b.closing then not (is_last_in b.space id) else if is_last_in b.space id then wants_in s id else waits_in s id)
+
+  -- a frame waits in a space that elicits an acknowledgement, and no probe is due there: what goes in the space is held back by the window
+  -- and the pacer (RFC 9002, sections 7 and 7.7), which hold no probe back, nor an ACK alone
+  unfoldable pub is_eager : View t → SpaceId → Bool
+  is_eager s id = wants_in s id && (space_of s.waiting.spaces id).probes == 0
+
+  -- with so many bytes more those in flight would reach the congestion window
+  unfoldable pub is_congested : Meaning t → View t → ℕ → Bool
+  is_congested m s bytes = nat_le (m.control.window_of s.paths.current.kept.congestion) (plus (all_bytes s.lower.recovery) bytes)
+
+  -- what the pace of the path in use follows from
+  unfoldable pub rate_of : Meaning t → View t → PathRate
+  rate_of m s = path_rate m.control s.paths.current.kept
+
+  -- until when so many bytes are to wait for the pacer, at a time, if they are
+  unfoldable pub paced_until : Meaning t → (time : ℕ) → View t → ℕ → Option ℕ
+  paced_until m time s bytes = pacing_delay (rate_of m s) bytes (refilled time (rate_of m s) s.paths.current.kept.pacing)
+
+  -- what holds back a datagram that a packet of this space would begin: the first limit that stands, if one does
+  unfoldable pub limit_in : Meaning t → (time : ℕ) → View t → Batch → SpaceId → Option Quiet
+  limit_in m time s b id =
+      if is_blocked_behind s.paths b.total then Some Amplification
+      else held_in (is_eager s id) (is_congested m s (next_segment b)) (is_some (paced_until m time s (next_segment b)))
+
+  -- a space is passed over: it owes nothing, or the window holds back what goes there
+  unfoldable pub is_passed : Meaning t → View t → Batch → SpaceId → Bool
+  is_passed m s b id = not (owes_in b s id) || (is_eager s id && is_congested m s (next_segment b))
+
+  -- each space before this one is passed over
+  unfoldable pub is_first_in_turn : Meaning t → View t → Batch → SpaceId → Bool
+  is_first_in_turn m s b Initial = true
+  is_first_in_turn m s b Handshake = is_passed m s b Initial
+  is_first_in_turn m s b Data = is_passed m s b Initial && is_passed m s b Handshake
+
+  -- in each space that owes something a frame waits that the window holds back
+  unfoldable pub all_eager : Batch → View t → Bool
+  all_eager b s =
+      (not (owes_in b s Initial) || is_eager s Initial) && ((not (owes_in b s Handshake) || is_eager s Handshake) && (not (owes_in b s Data) || is_eager s Data))
+
+  -- in the first space that owes something one waits
+  unfoldable pub first_eager : Batch → View t → Bool
+  first_eager b s =
+      if owes_in b s Initial then is_eager s Initial
+      else if owes_in b s Handshake then is_eager s Handshake
+      else is_eager s Data
 
   -- some space owes something
-  unfoldable pub owes : (closing : Bool) → View t → Bool
-  owes closing s = owes_in closing s Initial || owes_in closing s Handshake || owes_in closing s Data
+  unfoldable pub owes : Batch → View t → Bool
+  owes b s = owes_in b s Initial || owes_in b s Handshake || owes_in b s Data
 
   -- the number of the space's next packet is past the limit
   unfoldable pub is_used_up : View t → SpaceId → Bool
@@ -279,25 +437,30 @@ module _ {t : Types} where
       else None
 
   -- why a transmit seals nothing with this view, where the connection goes on
-  unfoldable pub quiet_of : (closing : Bool) → View t → Option Quiet
-  quiet_of closing s = quiet_by (is_silent s) (owes closing s) (is_blocked s.paths)
+  unfoldable pub quiet_of : Meaning t → (time : ℕ) → View t → Batch → Option Quiet
+  quiet_of m time s b =
+      quiet_by (is_silent s) (owes b s) (is_blocked_behind s.paths b.total)
+      (held_by (is_congested m s (next_segment b)) (all_eager b s) (is_some (paced_until m time s (next_segment b))) (first_eager b s))
 
   -- how many bytes a packet of this form with these frames has
   unfoldable pub packet_size : View t → Form → List FrameValue → ℕ
   packet_size s form fs = length (header_spelling (header_in s form) 0) + length (frames_spelling fs) + 16
 
-  -- how many bytes such a packet is to have at least
-  unfoldable pub least_size : View t → Form → List FrameValue → ℕ
-  least_size s form fs = if fills s.setup.fixed.side (number_space form) (list_any elicits fs) then DATAGRAM_SIZE else 0
+  -- whether a packet with these frames fills up its datagram
+  unfoldable pub fills_up : View t → Form → List FrameValue → Bool
+  fills_up s form fs = fills s.setup.fixed.side (number_space form) (list_any elicits fs)
 
-  -- how much PADDING such a packet needs: up to a datagram's size where it fills one, and up to what each packet has to have
-  -- (RFC 9001, section 5.4.2; RFC 9000, section 10.3)
-  unfoldable pub padding_of : View t → Form → List FrameValue → ℕ
-  padding_of s form fs = padding_len (header_in s form) fs (padded_size (header_in s form) fs (least_size s form fs))
+  -- how many bytes a packet of this form has at least, whatever it carries (RFC 9001, section 5.4.2; RFC 9000, section 10.3)
+  unfoldable pub least_size : View t → Form → ℕ
+  least_size s form = min_size_of 0 (header_in s form) + 16
 
-  -- the frames with that PADDING behind them
-  unfoldable pub padded : View t → Form → List FrameValue → List FrameValue
-  padded s form fs = fs ++ replicate (padding_of s form fs) frames.Padding
+  -- A packet with these frames has its PADDING, by the batch once it is begun: so much that it has as many bytes as each packet is to have; and no
+  -- more, but as its datagram is filled up, or as that gets the size of those before it, for which at most 16 bytes lack.
+  pub record IsPadded (b : Batch) (s : View t) (form : Form) (fs : List FrameValue) : Type 0 where
+    pub enough : least_size s form ≤ packet_size s form fs
+    pub spare :
+        (padding_in fs ≡ 0) ⊎ ((packet_size s form fs ≡ least_size s form) ⊎ ((((b.fills || fills_up s form fs) ≡ true) × (b.filled + packet_size s form fs ≡ DATAGRAM_SIZE))
+        ⊎ ((1 < b.made) × (padding_in fs ≤ 16) × (b.filled + packet_size s form fs ≡ b.segment))))
 
   -- a packet under the local keys, its fixed bit flipped or not; none without keys
   abbrev pub sealed_with : Meaning t → Option t.H → Option t.P → (flip : Bool) → Header → ℕ → List ℕ → List ℕ
@@ -316,17 +479,19 @@ module _ {t : Types} where
   -- an ACK is all that is owed in a space, and has more bytes than there is room for behind the header, with its token
   pub record LacksAckRoom (time : ℕ) (s : View t) (id : SpaceId) (room : ℕ) : Type 0 where
     pub owed : is_ack_owed (space_of s.waiting.spaces id).acks ≡ true
-    pub alone : (wants_sending s id || datagram_waits id s) ≡ false
-    pub ack : AckValue
-    pub says : SaysAck time (space_of s.waiting.spaces id) ack
-    pub long : room < length (frames_spelling (frames.Ack ack ∷ []))
+    pub alone : wants_in s id ≡ false
+    pub long : IsLongAck time (space_of s.waiting.spaces id) room
 
-  -- the frames of a packet of this form with so much room at a time, and the PADDING that it needs and no more: in a transmit that began with a close
-  -- owed, the close alone; else each waits as its turn comes, and there is one, unless only an ACK is owed that has no room
+  -- these frames hold something that the space owed as their packet was begun: one that elicits an acknowledgement, or the ACK that was
+  -- owed
+  unfoldable pub holds_owed : View t → SpaceId → List FrameValue → Bool
+  holds_owed s id fs = list_any elicits fs || (is_ack_owed (space_of s.waiting.spaces id).acks && list_any is_ack fs)
+
+  -- the frames of a packet of this form with so much room at a time, and PADDING behind them: in a transmit that began with a close owed,
+  -- the close alone; else each waits as its turn comes
   pub data Carries (closing : Bool) (time : ℕ) (s : View t) (form : Form) (room : ℕ) (fs : List FrameValue) : Type 0 where
-    a_close : closing ≡ true → (gs : List FrameValue) → Closes time s (number_space form) room gs → fs ≡ padded s form gs → Carries closing time s form room fs
-    what_waits : closing ≡ false → (gs : List FrameValue) → WaitAll time s (number_space form) gs →
-        (0 < length gs) ⊎ LacksAckRoom time s (number_space form) room → fs ≡ padded s form gs → Carries closing time s form room fs
+    a_close : closing ≡ true → (gs : List FrameValue) (n : ℕ) → Closes time s (number_space form) room gs → fs ≡ gs ++ replicate n frames.Padding → Carries closing time s form room fs
+    what_waits : closing ≡ false → (gs : List FrameValue) (n : ℕ) → WaitAll time s (number_space form) gs → fs ≡ gs ++ replicate n frames.Padding → Carries closing time s form room fs
 
   -- the number that would be next in a space is skipped, where it is to be
   unfoldable pub skipped_after : SpaceId → At t → At t
@@ -344,27 +509,44 @@ module _ {t : Types} where
   unfoldable pub begun_batch : View t → SpaceId → (opens : Bool) → Batch → Batch
   begun_batch s id opens b = batch_opened opens (not ((space_of s.waiting.spaces id).probes == 0)) b
 
-  -- it is the turn of this space: the connection has not ended, and is open, but in a transmit that began with a close owed; the space
-  -- owes something, and none before it does
-  pub record HasTurn (closing : Bool) (s : View t) (id : SpaceId) : Type 0 where
+  -- it is the turn of this space: the connection has not ended, and is open, but in a transmit that began with a close owed; no key before
+  -- is to seal the close as its last packet; the space owes something, and stands behind that of the last packet; and as the transmit begins,
+  -- each space before it is passed over
+  pub record HasTurn (m : Meaning t) (s : View t) (b : Batch) (id : SpaceId) : Type 0 where
     pub alive : is_drained s.life.state ≡ false
-    pub unclosed : closing ≡ false → is_open s.life.state ≡ true
-    pub owed : owes_in closing s id ≡ true
-    pub first : is_first_in_turn closing s id ≡ true
+    pub unclosed : b.closing ≡ false → is_open s.life.state ≡ true
+    pub spare : b.worn ≡ false
+    pub owed : owes_in b s id ≡ true
+    pub order : is_in_order b.space id ≡ true
+    pub first : b.made ≡ 0 → is_first_in_turn m s b id ≡ true
 
-  -- a packet of this form may be begun: it is the turn of its space, whose packets have this form now, the path isn't blocked, and no
-  -- limit stands
-  pub record MayBegin (closing : Bool) (s : View t) (form : Form) : Type 0 where
-    pub turn : HasTurn closing s (number_space form)
+  -- a packet of this space may begin a datagram at a time: there may be one more, which nothing holds back; and no packet need join the one
+  -- before it, unless this one is an Initial packet
+  pub record MayOpen (m : Meaning t) (time : ℕ) (s : View t) (b : Batch) (id : SpaceId) : Type 0 where
+    pub few : b.made < b.most
+    pub free : limit_in m time s b id ≡ None
+    pub further : (is_done b || is_space id Initial) ≡ true
+
+  -- it may begin one, or joins one
+  abbrev pub MayStand : Meaning t → ℕ → View t → Batch → SpaceId → (opens : Bool) → Type 0
+  MayStand m time s b id true = MayOpen m time s b id
+  MayStand m time s b id false = takes_another b ≡ true
+
+  -- a packet of this form may be begun at a time: it is the turn of its space, whose packets have this form now, there is a place for it, and
+  -- it can begin
+  pub record MayBegin (m : Meaning t) (time : ℕ) (s : View t) (b : Batch) (form : Form) (opens : Bool) : Type 0 where
+    pub turn : HasTurn m s b (number_space form)
     pub now : form ≡ form_in s.keys (number_space form)
-    pub free : is_blocked s.paths ≡ false
+    pub place : MayStand m time s b (number_space form) opens
+    pub behind : IsBehind b opens
     pub fresh : kill_in s form ≡ None
 
-  -- the connection ends for this reason: it is the turn of a space on a path that isn't blocked, and its packet can't be begun
-  pub record Dies (closing : Bool) (s : View t) (why : ConnectionError) : Type 0 where
+  -- the connection ends for this reason: it is the turn of a space, there is a place for its packet, and that can't begin
+  pub record Dies (m : Meaning t) (time : ℕ) (s : View t) (b : Batch) (why : ConnectionError) : Type 0 where
     pub space : SpaceId
-    pub turn : HasTurn closing s space
-    pub free : is_blocked s.paths ≡ false
+    pub opens : Bool
+    pub turn : HasTurn m s b space
+    pub place : MayStand m time s b space opens
     pub kill : kill_in s (form_in s.keys space) ≡ Some why
 
   -- such an end drops the keys of its Initial space, if it has them still
@@ -380,21 +562,26 @@ module _ {t : Types} where
   unfoldable pub is_flown : View t → List FrameValue → Bool
   is_flown s fs = not s.waiting.close_owed && counts_in_flight fs
 
-  -- the loss timer is set anew behind a packet that counts as in flight; the packet's own bytes block nothing yet
-  abbrev pub flown_after : (time : ℕ) → Bool → At t → At t
-  flown_after time counts a = if counts then armed_with false time a else a
+  -- a packet of so many bytes that counts as in flight takes them out of the pacer's tokens
+  unfoldable pub spent_after : Meaning t → (time size : ℕ) → At t → At t
+  spent_after m time size a = move_to (Spend (packet_paced time (rate_of m a.state) size a.state.paths.current.kept.pacing)) a
+
+  -- and the loss timer is set anew behind it; the packet's own bytes block nothing yet
+  abbrev pub flown_after : Meaning t → (time size : ℕ) → Bool → At t → At t
+  flown_after m time size counts a = if counts then armed_with false time (spent_after m time size a) else a
 
   -- a packet of this form is taken and sealed: its frames wait no longer, and its number is used
-  unfoldable pub sealed_in : ℕ → Form → List FrameValue → At t → At t
-  sealed_in time form fs a =
-      flown_after time (is_flown a.state fs) (move_to (Seal time form (next_number a.state.numbers (number_space form)) (packet_size a.state form fs) fs) (move_to (Take (number_space form) fs) a))
+  unfoldable pub sealed_in : Meaning t → ℕ → Form → List FrameValue → At t → At t
+  sealed_in m time form fs a =
+      flown_after m time (packet_size a.state form fs) (is_flown a.state fs) (move_to (Seal time form (next_number a.state.numbers (number_space form)) (packet_size a.state form fs) fs) (move_to (Take (number_space form) fs) a))
 
   -- a packet is begun, taken and sealed: the steps in their order
   unfoldable pub packet_after : Meaning t → ℕ → Sent → Going t → Going t
   packet_after m time p g =
       let begun : At t = begun_after (number_space p.form) p.opens g.now in
-      going (sealed_in time p.form p.frames begun)
-      (batch_grown (number_space p.form) (packet_size begun.state p.form p.frames) (is_key_nearly_used_up g.now.state p.form) (begun_batch g.now.state (number_space p.form) p.opens g.batch))
+      going (sealed_in m time p.form p.frames begun)
+      (batch_grown p.form (next_number begun.state.numbers (number_space p.form)) (packet_size begun.state p.form p.frames) (padding_in p.frames) (fills_up begun.state p.form p.frames)
+      (is_key_nearly_used_up g.now.state p.form) (begun_batch g.now.state (number_space p.form) p.opens g.batch))
       (g.out ++ packet_bytes m begun.state p.form p.frames)
 
   -- packets, one behind the other
@@ -402,29 +589,55 @@ module _ {t : Types} where
   packets_after m time [] g = g
   packets_after m time (p ∷ ps) g = packets_after m time ps (packet_after m time p g)
 
-  -- a packet may follow at a time, by the view and the batch before it: it may be begun, and carries what it may, in a datagram of
-  -- which it takes no more than there is, and which UDP can carry. So far a transmit seals one packet, in a datagram of its own.
-  pub record MayFollow (time : ℕ) (s : View t) (b : Batch) (p : Sent) : Type 0 where
-    pub alone : b.made ≡ 0
-    pub opens : p.opens ≡ true
-    pub begins : MayBegin b.closing s p.form
+  -- a packet may follow at a time, by the view and the batch before it: it may be begun, and carries what it may, among it something that its
+  -- space owed, unless it is the first of the transmit, and only an ACK was owed that has no room; with the PADDING that it is to have; in a
+  -- datagram of which it takes no more than there is, and which UDP can carry
+  pub record MayFollow (m : Meaning t) (time : ℕ) (s : View t) (b : Batch) (p : Sent) : Type 0 where
+    pub begins : MayBegin m time s b p.form p.opens
     pub sized : (begun_batch s (number_space p.form) p.opens b).capacity ≤ 65527
     pub carries : Carries b.closing time (begun_view s (number_space p.form) p.opens) p.form
         (room_in (begun_batch s (number_space p.form) p.opens b) (begun_view s (number_space p.form) p.opens) p.form) p.frames
+    pub holds : b.closing ≡ false → (holds_owed (begun_view s (number_space p.form) p.opens) (number_space p.form) p.frames ≡ true)
+        ⊎ ((b.made ≡ 0) × LacksAckRoom time (begun_view s (number_space p.form) p.opens) (number_space p.form)
+        (room_in (begun_batch s (number_space p.form) p.opens b) (begun_view s (number_space p.form) p.opens) p.form))
+    pub padded : IsPadded (begun_batch s (number_space p.form) p.opens b) (begun_view s (number_space p.form) p.opens) p.form p.frames
     pub fits :
         (begun_batch s (number_space p.form) p.opens b).filled + packet_size (begun_view s (number_space p.form) p.opens) p.form p.frames ≤ (begun_batch s (number_space p.form) p.opens b).capacity
 
   -- each of these packets may follow those before it
   abbrev pub MayAll : Meaning t → ℕ → Going t → List Sent → Type 0
   MayAll m time g [] = Unit {0}
-  MayAll m time g (p ∷ ps) = MayFollow time g.now.state g.batch p × MayAll m time (packet_after m time p g) ps
+  MayAll m time g (p ∷ ps) = MayFollow m time g.now.state g.batch p × MayAll m time (packet_after m time p g) ps
+
+  -- what a space owes has no room in a packet that would join the open datagram: it is an ACK, or a datagram of the application
+  pub record LacksRoom (time : ℕ) (b : Batch) (s : View t) (id : SpaceId) : Type 0 where
+    pub wants : wants_sending s id ≡ false
+    pub probes : (space_of s.waiting.spaces id).probes ≡ 0
+    pub ack : is_ack_owed (space_of s.waiting.spaces id).acks ≡ true → IsLongAck time (space_of s.waiting.spaces id) (room_in b (begun_view s id false) (form_in s.keys id))
+    pub datagram : datagram_fits id (room_in b (begun_view s id false) (form_in s.keys id)) s ≡ false
+
+  -- A transmit that sealed packets may end at a time: its last datagram is filled up where it is to be; and where it has one datagram alone, and
+  -- a packet would have joined that, no space behind owes anything that has room, but where it closes, or is about to.
+  pub record IsEnded (time : ℕ) (s : View t) (b : Batch) : Type 0 where
+    pub some : 0 < b.made
+    pub filled : is_closed_up b ≡ true
+    pub none : b.made ≡ 1 → b.closing ≡ false → b.worn ≡ false → is_done b ≡ false → (id : SpaceId) → is_in_order b.space id ≡ true → is_last_in b.space id ≡ false →
+        (owes_in b s id ≡ false) ⊎ LacksRoom time b s id
+
+  -- the pacer holds back a further datagram, which a packet of some space would begin
+  pub record IsHeld (m : Meaning t) (time : ℕ) (s : View t) (b : Batch) : Type 0 where
+    pub space : SpaceId
+    pub turn : HasTurn m s b space
+    pub few : b.made < b.most
+    pub held : limit_in m time s b space ≡ Some Pacing
 
   -- how a transmit may end, by the view and the batch behind its packets: with datagrams; or without one, for the cause that there is,
   -- or as a packet was to begin that can't
-  abbrev pub MayEnd : Ending → View t → Batch → Type 0
-  MayEnd Went s b = 0 < b.made
-  MayEnd (Hushed quiet) s b = (b.made ≡ 0) × (quiet_of b.closing s ≡ Some quiet)
-  MayEnd (Died why) s b = (b.made ≡ 0) × Dies b.closing s why
+  abbrev pub MayEnd : Meaning t → (time : ℕ) → Ending → View t → Batch → Type 0
+  MayEnd m time Went s b = IsEnded time s b
+  MayEnd m time Held s b = IsEnded time s b × IsHeld m time s b
+  MayEnd m time (Hushed quiet) s b = (b.made ≡ 0) × (quiet_of m time s b ≡ Some quiet)
+  MayEnd m time (Died why) s b = Dies m time s b why
 
   -- a client that sealed a Handshake packet leaves the Initial space
   abbrev pub handshake_left : ℕ → (shook : Bool) → At t → At t
@@ -435,62 +648,86 @@ module _ {t : Types} where
   unfoldable pub spared_after : (time : ℕ) → (nearly : Bool) → At t → At t
   spared_after time nearly a = if nearly then stopped_after time key_limit_error a else a
 
-  -- what a transmit does once, behind its packets; then its bytes go to the path's address
-  unfoldable pub finished_after : ℕ → Batch → At t → At t
-  finished_after time b a = move_to (Finish b.total) (spared_after time b.worn (handshake_left time b.shook a))
+  -- then its bytes go to the path's address, of which the controller is told
+  unfoldable pub told_sent : Meaning t → ℕ → Batch → At t → At t
+  told_sent m time b a = move_to (Finish b.total (m.control.after_sent a.state.paths.current.kept.congestion time b.total b.last)) a
+
+  -- what a transmit does once, behind its packets
+  unfoldable pub finished_after : Meaning t → ℕ → Batch → At t → At t
+  finished_after m time b a = told_sent m time b (spared_after time b.worn (handshake_left time b.shook a))
+
+  -- where the pacer holds a datagram back, the connection wants to be called when it may go
+  unfoldable pub held_after : Meaning t → ℕ → Quiet → Batch → At t → At t
+  held_after m time Pacing b a = move_to (Hold (paced_until m time a.state (next_segment b))) a
+  held_after m time NothingOwed b a = a
+  held_after m time Silent b a = a
+  held_after m time Amplification b a = a
+  held_after m time Congestion b a = a
+  held_after m time Killed b a = a
 
   -- how a transmit ends: where the connection ends, nothing goes
-  unfoldable pub ending_after : ℕ → Ending → Batch → At t → At t
-  ending_after time Went b a = finished_after time b a
-  ending_after time (Hushed quiet) b a = move_to (Say quiet) a
-  ending_after time (Died why) b a = move_to (Say Killed) (killed_after why a)
+  unfoldable pub ending_after : Meaning t → ℕ → Ending → Batch → At t → At t
+  ending_after m time Went b a = finished_after m time b a
+  ending_after m time Held b a = finished_after m time b (held_after m time Pacing b a)
+  ending_after m time (Hushed quiet) b a = move_to (Say quiet) (held_after m time quiet b a)
+  ending_after m time (Died why) b a = move_to (Say Killed) (killed_after why a)
+
+  -- how many datagrams a transmit may have that is asked for so many: one, where its datagrams can't stand behind each other
+  abbrev pub most_of : View t → (asked : ℕ) → ℕ
+  most_of s asked = if s.setup.fixed.segmentation then asked else 1
 
   -- a transmit begins
-  abbrev pub going_from : At t → Going t
-  going_from a = going a (batch_begun a.state.waiting.close_owed (path_size a.state)) []
+  abbrev pub going_from : (asked : ℕ) → At t → Going t
+  going_from asked a = going a (batch_begun a.state.waiting.close_owed (most_of a.state asked) (path_size a.state)) []
 
   -- what its packets leave
-  unfoldable pub gone_after : Meaning t → ℕ → Choice → At t → Going t
-  gone_after m time choice a = packets_after m time choice.packets (going_from a)
+  unfoldable pub gone_after : Meaning t → (time asked : ℕ) → Choice → At t → Going t
+  gone_after m time asked choice a = packets_after m time choice.packets (going_from asked a)
 
   -- what a transmit leaves with this choice
-  unfoldable pub transmit_after : Meaning t → ℕ → Choice → At t → At t
-  transmit_after m time choice a = ending_after time choice.ending (gone_after m time choice a).batch (gone_after m time choice a).now
+  unfoldable pub transmit_after : Meaning t → (time asked : ℕ) → Choice → At t → At t
+  transmit_after m time asked choice a = ending_after m time choice.ending (gone_after m time asked choice a).batch (gone_after m time asked choice a).now
 
   -- which choice it may have
-  unfoldable pub MayTransmit : Meaning t → ℕ → Choice → At t → Type 0
-  MayTransmit m time choice a =
-      MayAll m time (going_from a) choice.packets × MayEnd choice.ending (gone_after m time choice a).now.state (gone_after m time choice a).batch
+  unfoldable pub MayTransmit : Meaning t → (time asked : ℕ) → Choice → At t → Type 0
+  MayTransmit m time asked choice a =
+      MayAll m time (going_from asked a) choice.packets × MayEnd m time choice.ending (gone_after m time asked choice a).now.state (gone_after m time asked choice a).batch
 
   -- the bytes of its datagrams
-  unfoldable pub transmit_bytes : Meaning t → ℕ → Choice → At t → List ℕ
-  transmit_bytes m time choice a = bytes_out choice.ending (gone_after m time choice a).out
+  unfoldable pub transmit_bytes : Meaning t → (time asked : ℕ) → Choice → At t → List ℕ
+  transmit_bytes m time asked choice a = bytes_out choice.ending (gone_after m time asked choice a).out
 
-  -- where a datagram of this size goes, and how
-  unfoldable pub transmit_with : View t → ℕ → Transmit
-  transmit_with s size = record {
+  -- where these datagrams go, and how
+  unfoldable pub transmit_with : View t → Batch → Transmit
+  transmit_with s b = record {
     destination = s.paths.current.remote;
     ecn = if s.paths.current.kept.sending_ecn then Some Ect0 else None;
-    size = size;
-    segment_size = None;
+    size = b.total;
+    segment_size = segment_of b;
     src_ip = s.setup.fixed.local_ip;
   }
 
   -- where they go, and how; none where there are none
-  unfoldable pub transmit_of : Meaning t → ℕ → Choice → At t → Option Transmit
-  transmit_of m time choice a = sent_out choice.ending (transmit_with a.state (gone_after m time choice a).batch.total)
+  unfoldable pub transmit_of : Meaning t → (time asked : ℕ) → Choice → At t → Option Transmit
+  transmit_of m time asked choice a = sent_out choice.ending (transmit_with a.state (gone_after m time asked choice a).batch)
 
   -- a packet was sealed: what it leaves is what a packet does that may follow
   pub record SendsOne (m : Meaning t) (time : ℕ) (g h : Going t) : Type 0 where
     pub packet : Sent
-    pub may : MayFollow time g.now.state g.batch packet
+    pub may : MayFollow m time g.now.state g.batch packet
     pub leads : h ≡ packet_after m time packet g
 
-  -- a transmit into an empty buffer
-  pub record Transmits (m : Meaning t) (time : ℕ) (a b : At t) (sent : Option Transmit) (buffer : List ℕ) : Type 0 where
+  -- packets were sealed, one behind the other
+  pub record SendsAll (m : Meaning t) (time : ℕ) (g h : Going t) : Type 0 where
+    pub packets : List Sent
+    pub may : MayAll m time g packets
+    pub leads : h ≡ packets_after m time packets g
+
+  -- a transmit of at most so many datagrams into an empty buffer
+  pub record Transmits (m : Meaning t) (time asked : ℕ) (a b : At t) (sent : Option Transmit) (buffer : List ℕ) : Type 0 where
     pub choice : Choice
-    pub may : MayTransmit m time choice a
-    pub leads : b ≡ transmit_after m time choice a
-    pub answer : sent ≡ transmit_of m time choice a
-    pub bytes : buffer ≡ transmit_bytes m time choice a
+    pub may : MayTransmit m time asked choice a
+    pub leads : b ≡ transmit_after m time asked choice a
+    pub answer : sent ≡ transmit_of m time asked choice a
+    pub bytes : buffer ≡ transmit_bytes m time asked choice a
     pub full : length buffer ≡ sent_size sent

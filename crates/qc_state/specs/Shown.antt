@@ -15,7 +15,7 @@ use Rattle.qc_state.specs.declared.life.ConnectionError.TheVariants.{TransportEr
 use Rattle.qc_state.specs.declared.events.EndpointEvent.{EndpointEvent}
 use Rattle.qc_state.specs.declared.events.EndpointEvent.TheVariants as endpoint
 use Rattle.qc_state.specs.declared.events.Event.{Event}
-use Rattle.qc_state.specs.declared.events.Event.TheVariants.{HandshakeDataReady, Connected, ConnectionLost, DatagramReceived, Stream}
+use Rattle.qc_state.specs.declared.events.Event.TheVariants.{HandshakeDataReady, Connected, ConnectionLost, DatagramReceived, DatagramsUnblocked, Stream}
 
 -- a byte of a reason: printable ASCII as it is, any other as a question mark
 abbrev pub shown_byte : ℕ → List ℕ
@@ -65,6 +65,7 @@ event_text HandshakeDataReady = codes "handshake data ready"
 event_text Connected = codes "connected"
 event_text (ConnectionLost why) = codes "connection lost: " ++ error_text why
 event_text DatagramReceived = codes "datagram received"
+event_text DatagramsUnblocked = codes "datagrams unblocked"
 event_text (Stream event) = stream_event_text event
 
 -- what the endpoint is told

@@ -1,10 +1,12 @@
 -- In which order this end takes frames that wait for a packet, and how many: these are the words of the calls that take, and the
 -- contract of a transmit has none of them.
-use Rattle.std.specs.Prelude.{◌≡◌, ℕ, ◌+◌, ◌-◌, ◌≤◌, Bool, true, false, ◌⊎◌, if◌then◌else◌, List, [], ◌∷◌, ◌++◌, length, Option, is_some}
+use Rattle.std.specs.Prelude.{◌≡◌, ℕ, ◌+◌, ◌-◌, ◌≤◌, Bool, true, false, ◌&&◌, not, ◌⊎◌, if◌then◌else◌, List, [], ◌∷◌, ◌++◌, length, Option, is_some}
 use Rattle.qc_frame.specs.Frame.{FrameValue}
 use Rattle.qc_frame.specs.FrameFits.{Fits}
 use Rattle.qc_frame.specs.FrameSpelling.{frames_spelling}
 use Rattle.qc_frame.specs.declared.frames.FrameOf.TheVariants as frames
+use Rattle.qc_state.specs.declared.events.Event.{Event}
+use Rattle.qc_state.specs.declared.events.Event.TheVariants.{DatagramsUnblocked}
 use Rattle.qc_state.specs.declared.waiting.TheConstants.{CRYPTO_HEAD}
 use Rattle.qc_state.specs.declared.waiting.SpaceWaiting.{SpaceWaiting}
 use Rattle.qc_datagrams.specs.Steps as datagrams
@@ -110,6 +112,11 @@ pub record TakesDatagrams (room : ℕ) (d d' : Datagrams) (fs gs : List FrameVal
   pub given : d' ≡ datagrams.after (sealed_datagrams own) d
   pub list : gs ≡ fs ++ own
   pub fits : length (frames_spelling own) + left ≤ room
+
+-- what is told where it was remembered before, or not, that a datagram had been refused because of a full buffer, and behind: that there is
+-- room again, where it is remembered no longer
+abbrev pub room_events : (before behind : Bool) → List Event
+room_events before behind = if before && not behind then DatagramsUnblocked ∷ [] else []
 
 -- frames about connection ids alone, whose numbers have room in their fields
 abbrev pub AreOfIds : List FrameValue → Type 0

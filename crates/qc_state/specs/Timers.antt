@@ -70,6 +70,10 @@ timers_acking v acks = if acks then record v { max_ack_delay = None } else v
 unfoldable pub timers_paced : Timers → Timers
 timers_paced v = record v { pacing = None }
 
+-- the pacer holds a datagram back until a time
+unfoldable pub timers_held : Timers → (until : Option ℕ) → Timers
+timers_held v until = record v { pacing = until }
+
 -- the ACK that was held back is owed at last
 unfoldable pub timers_released : Timers → Timers
 timers_released v = record v { max_ack_delay = None }

@@ -183,19 +183,13 @@ ack_released v = record v { spaces = with_space v.spaces «Data» (released (spa
 unfoldable pub bundle_next : Waiting → List FrameValue → (next : ℕ) → Waiting
 bundle_next v fs next = if list_any is_ack fs then record v { bundled = Some next } else v
 
--- no packet of the space was sealed since a close began to be owed
-abbrev pub untold : SpaceWaiting → SpaceWaiting
-untold w = record w { told = false }
-
--- a close is owed from now on (RFC 9000, section 10.2): in each space; while one is owed, nothing begins anew
+-- a close is owed from now on (RFC 9000, section 10.2)
 unfoldable pub close_begun : Waiting → Waiting
-close_begun v =
-    if v.close_owed then v
-    else record v { spaces = record { initial = untold v.spaces.initial; handshake = untold v.spaces.handshake; application = untold v.spaces.application }; close_owed = true }
+close_begun v = record v { close_owed = true }
 
--- a packet of the space was sealed; in the last of the spaces it ends the owing of a close
-unfoldable pub packet_told : Waiting → SpaceId → (last : Bool) → Waiting
-packet_told v id last = record v { spaces = with_space v.spaces id (record (space_of v.spaces id) { told = true }); close_owed = v.close_owed && not last }
+-- a packet was sealed; in the last of the spaces it ends the owing of a close
+unfoldable pub packet_told : Waiting → (last : Bool) → Waiting
+packet_told v last = record v { close_owed = v.close_owed && not last }
 
 -- the session wrote bytes for a CRYPTO stream, where it has room for them: it ends at 2^62, and a session writes fewer bytes
 unfoldable pub crypto_more : Buffer → List ℕ → Buffer

@@ -18,6 +18,10 @@ pub enum Quiet {
     Silent,
     /// The peer's address isn't validated, and three times the bytes that came from it were sent (RFC 9000, 8.1).
     Amplification,
+    /// What is owed elicits acknowledgements, and would fill the congestion window (RFC 9002, 7).
+    Congestion,
+    /// The pacer holds a datagram back, until the time of its timer (RFC 9002, 7.7).
+    Pacing,
     /// The call ended the connection.
     Killed,
 }

@@ -23,6 +23,8 @@ pub enum Event {
     },
     /// A datagram of the peer's application came, where none was queued before (RFC 9221).
     DatagramReceived,
+    /// A datagram was sealed, and another had been refused before because the buffer was full: there is room again (RFC 9221).
+    DatagramsUnblocked,
     /// Something happened on a stream, or to how many streams there may be.
     Stream(StreamEvent),
 }
@@ -101,6 +103,16 @@ impl Events {
         ensures err { OnErr result (self.new ≡ self.old) }
     {
         self.events.push(Event::DatagramReceived)?;
+        Ok(())
+    }
+
+    /// The report that there is room for datagrams again, after the others. Want of memory is the only refusal, and then the list is as
+    /// before.
+    pub fn push_unblocked(&mut self) -> Result<(), AllocError>
+        ensures ok { OnOk result (self.new ≡ self.old ++ Event.DatagramsUnblocked ∷ []) }
+        ensures err { OnErr result (self.new ≡ self.old) }
+    {
+        self.events.push(Event::DatagramsUnblocked)?;
         Ok(())
     }
 

@@ -34,6 +34,7 @@ mod taking;
 pub mod timers;
 pub mod trace;
 pub mod transmit;
+pub mod unblocking;
 pub mod waiting;
 
 pub use body::Body;
@@ -56,5 +57,5 @@ pub use spaces::Spaces;
 pub use suite::{Means, Suite};
 pub use timers::Timers;
 pub use trace::{Answer, Refusal, Step, Trace};
-pub use transmit::{Batch, DATAGRAM_SIZE, Transmit};
+pub use transmit::{Batch, DATAGRAM_SIZE, JOINING_SIZE, Transmit};
 pub use waiting::{SpaceWaiting, Waiting};

@@ -1,7 +1,7 @@
 //! The life of a connection, the reason of its end, and what of both waits to be reported.
 
-ghost use Rattle.std.specs.Prelude.{◌≡◌, ◌++◌, true, slice_get, IfOk, OnOk};
-ghost use Rattle.qc_state.specs.Life.{rank_of, is_open, is_closed, is_handshake, is_established, is_over, is_drained, life_closed, life_drained, life_established, data_ready, reason_given, life_raised, ready_event, ready_reported, connected_event, connected_reported, datagram_heard, heard_reported, all_heard_reported, lost_event, lost_reported, token_learned, token_told, identifiers_wanted, retirement_told, first_notice, notice_reported, notices_reported, drained_event, drained_reported};
+ghost use Rattle.std.specs.Prelude.{◌≡◌, [], ◌∷◌, ◌++◌, true, slice_get, IfOk, OnOk};
+ghost use Rattle.qc_state.specs.Life.{rank_of, is_open, is_closed, is_handshake, is_established, is_over, is_drained, life_closed, life_drained, life_established, data_ready, reason_given, life_raised, ready_event, ready_reported, connected_event, connected_reported, datagram_heard, more_heard, heard_reported, all_heard_reported, lost_event, lost_reported, token_learned, token_told, identifiers_wanted, retirement_told, first_notice, notice_reported, notices_reported, drained_event, drained_reported};
 
 use crate::events::{EndpointEvent, EndpointEvents, Event, Events};
 use bytes::Bytes;
@@ -291,6 +291,13 @@ impl Life {
         ensures { OnOk result (self.new ≡ datagram_heard true self.old) }
     {
         self.heard.push_datagram()
+    }
+
+    /// There is room for datagrams again, which waits to be reported. Want of memory is the only refusal.
+    pub fn hear_room(&mut self) -> Result<(), AllocError>
+        ensures { OnOk result (self.new ≡ more_heard (Event.DatagramsUnblocked ∷ []) self.old) }
+    {
+        self.heard.push_unblocked()
     }
 
     /// The first that waits of datagrams, which is given from now on; none where nothing waits.

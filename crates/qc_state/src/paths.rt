@@ -1,10 +1,10 @@
 //! The path to the peer.
 
 ghost use Rattle.std.specs.Prelude.{◌≡◌, ◌≢◌, true, false};
-ghost use Rattle.qc_state.specs.Paths.{new_path, only_path, path_idle, path_sent, path_received, path_accepted, path_spun, spun_by, path_named, peer_fixed, peer_id, is_blocked, is_other_source, same_address};
+ghost use Rattle.qc_state.specs.Paths.{new_path, only_path, path_quiet, path_sent, path_received, path_accepted, path_spun, spun_by, path_named, peer_fixed, peer_id, is_blocked, is_blocked_behind, is_other_source, same_address};
 ghost use Rattle.std.specs.Net.Addr.{ipv4_octets, ipv6_segments};
 
-use crate::deeds::Verdict;
+use crate::deeds::{Quiet, Verdict};
 use qc_base::{ConnectionId, Side, SpaceId};
 use qc_path::Controller;
 use qc_recovery::PathData;
@@ -75,7 +75,7 @@ impl<C: Controller> Path<C> {
     }
 }
 
-#[tactic(auto, unfolding(crate::specs::Paths::only_path, crate::specs::Paths::path_sent, crate::specs::Paths::path_idle, crate::specs::Paths::path_received, crate::specs::Paths::peer_fixed, crate::specs::Paths::path_named, crate::specs::Paths::path_accepted, crate::specs::Paths::path_spun, crate::specs::Paths::is_blocked))]
+#[tactic(auto, unfolding(crate::specs::Paths::only_path, crate::specs::Paths::path_sent, crate::specs::Paths::path_quiet, crate::specs::Paths::path_received, crate::specs::Paths::peer_fixed, crate::specs::Paths::path_named, crate::specs::Paths::path_accepted, crate::specs::Paths::path_spun, crate::specs::Paths::is_blocked, crate::specs::Paths::is_blocked_behind))]
 impl<C: Controller> Paths<C> {
     /// A connection's first path, with the id that the peer chose, where it did.
     pub fn new(path: Path<C>, peer_cid: Option<ConnectionId>) -> Paths<C>
@@ -127,6 +127,14 @@ impl<C: Controller> Paths<C> {
             && 3 * u128::from(self.current.received) <= u128::from(self.current.sent)
     }
 
+    /// So it is with so many bytes more, which were sent there and aren't counted yet.
+    pub fn is_blocked_behind(&self, bytes: u64) -> bool
+        ensures { result ≡ is_blocked_behind self.now bytes }
+    {
+        let sent = u128::from(bytes) + u128::from(self.current.sent);
+        !self.current.validated && 3 * u128::from(self.current.received) <= sent
+    }
+
     /// The peer has chosen the id that packets to it carry.
     pub fn fix(&mut self, cid: ConnectionId)
         ensures { self.new ≡ peer_fixed self.old cid }
@@ -170,11 +178,16 @@ impl<C: Controller> Paths<C> {
         }
     }
 
-    /// A transmit sent nothing: what there is to send holds sending back.
-    pub fn idle(&mut self)
-        ensures { self.new ≡ path_idle self.old }
+    /// A transmit sent nothing, for this cause: what there is to send holds sending back, but where the congestion controller
+    /// does. The call that ends the connection says nothing of it.
+    pub fn quiet(&mut self, quiet: Quiet)
+        ensures { self.new ≡ path_quiet self.old quiet }
     {
-        self.app_limited = true;
+        match quiet {
+            Quiet::NothingOwed | Quiet::Silent | Quiet::Amplification => self.app_limited = true,
+            Quiet::Congestion | Quiet::Pacing => self.app_limited = false,
+            Quiet::Killed => {}
+        }
     }
 }
 

@@ -40,6 +40,8 @@ pub struct Fixed {
     pub spins: bool,
     /// How many packets the first 1-RTT keys seal before others take their place (RFC 9001, 6).
     pub key_phase_size: u64,
+    /// Whether the datagrams of a transmit may stand behind each other in one buffer; else a transmit has at most one.
+    pub segmentation: bool,
 }
 
 /// What a connection was made with, and its source of random words.

@@ -169,6 +169,7 @@ impl fmt::Display for Event {
             Event::Connected => write!(f, "connected"),
             Event::ConnectionLost { reason } => write!(f, "connection lost: {reason}"),
             Event::DatagramReceived => write!(f, "datagram received"),
+            Event::DatagramsUnblocked => write!(f, "datagrams unblocked"),
             Event::Stream(event) => {
                 let told = OnStreams(*event);
                 write!(f, "{told}")

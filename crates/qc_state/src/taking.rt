@@ -1,10 +1,10 @@
 //! The frames that are taken for a packet of a space, and in which order.
 
-ghost use Rattle.std.specs.Prelude.{◌≡◌, ◌<◌, ◌^◌, ◌++◌, ◌∷◌, [], true, length, OnOk, IfOk};
+ghost use Rattle.std.specs.Prelude.{◌≡◌, ◌<◌, ◌^◌, ◌++◌, ◌∷◌, [], true, false, length, OnOk, IfOk};
 ghost use Rattle.qc_frame.specs.AckRanges.{ArePackets};
 ghost use Rattle.qc_frame.specs.Frame.{ack_map};
 ghost use Rattle.qc_frame.specs.FrameSpelling.{frames_spelling};
-ghost use Rattle.qc_state.specs.Acks.{AckPart, SaysAck, is_ack_first, is_ack_last, is_ack_owed, may_acknowledge, told_count, told_counts};
+ghost use Rattle.qc_state.specs.Acks.{AckPart, IsLongAck, SaysAck, is_ack_first, is_ack_last, is_ack_owed, may_acknowledge, told_count, told_counts};
 ghost use Rattle.qc_frame.specs.declared.frames.FrameOf.TheVariants as frames;
 ghost use Rattle.qc_state.specs.Taking.{TakenPart, TakesAck, TakesCrypto, TakesOffered, marks_part};
 ghost use Rattle.qc_state.specs.Datagrams.{AllOldest};
@@ -238,6 +238,24 @@ pub(crate) fn take<S>(
     let left = take_offered(lower, alloc, in_data, rest, &mut frames)?;
     take_ack(space, alloc, now, last, left, &mut frames)?;
     Ok(frames)
+}
+
+/// Whether the ACK of a space at a time has so much room, where there is one. Want of memory is the only refusal.
+pub(crate) fn ack_fits(
+    space: &SpaceWaiting,
+    alloc: Global,
+    now: Instant,
+    room: usize,
+) -> Result<bool, AllocError>
+    ensures { IfOk result (λ fits. fits ≡ false → IsLongAck now space.now room) }
+{
+    let due = may_acknowledge(&space.acks);
+    if due {
+        let ack = ack_of(alloc, now, space)?;
+        let len = ack_len(alloc, &ack)?;
+        return Ok(len <= room);
+    }
+    Ok(true)
 }
 
 /// Takes the ACK at a time, where there is something to acknowledge and so much room for it. Want of memory is the only refusal.

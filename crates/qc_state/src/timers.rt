@@ -1,7 +1,7 @@
 //! The timers, and the greatest time so far.
 
 ghost use Rattle.std.specs.Prelude.{◌≡◌};
-ghost use Rattle.qc_state.specs.Timers.{no_timers, timers_sealed, timers_acking, timers_stopped, timers_closing, timers_accepted, timers_holding, timers_paced, timers_released, timers_issued, timers_outlived, timers_armed, clock_set, next_timeout, least, idle_from, has_come};
+ghost use Rattle.qc_state.specs.Timers.{no_timers, timers_sealed, timers_acking, timers_stopped, timers_closing, timers_accepted, timers_holding, timers_paced, timers_held, timers_released, timers_issued, timers_outlived, timers_armed, clock_set, next_timeout, least, idle_from, has_come};
 
 use qc_base::{Duration, Instant};
 
@@ -81,7 +81,7 @@ fn idle_at(
     }
 }
 
-#[tactic(auto, unfolding(crate::specs::Timers::timers_sealed, crate::specs::Timers::timers_stopped, crate::specs::Timers::timers_closing, crate::specs::Timers::timers_accepted, crate::specs::Timers::timers_armed, crate::specs::Timers::timers_holding, crate::specs::Timers::timers_acking, crate::specs::Timers::timers_paced, crate::specs::Timers::timers_released, crate::specs::Timers::timers_issued, crate::specs::Timers::timers_outlived, crate::specs::Timers::clock_set, crate::specs::Timers::next_timeout))]
+#[tactic(auto, unfolding(crate::specs::Timers::timers_sealed, crate::specs::Timers::timers_stopped, crate::specs::Timers::timers_closing, crate::specs::Timers::timers_accepted, crate::specs::Timers::timers_armed, crate::specs::Timers::timers_holding, crate::specs::Timers::timers_acking, crate::specs::Timers::timers_paced, crate::specs::Timers::timers_held, crate::specs::Timers::timers_released, crate::specs::Timers::timers_issued, crate::specs::Timers::timers_outlived, crate::specs::Timers::clock_set, crate::specs::Timers::next_timeout))]
 impl Timers {
     /// The timers of a connection that begins at `now`: none is set.
     pub fn new(now: Instant) -> Timers
@@ -143,6 +143,13 @@ impl Timers {
         ensures { self.new ≡ timers_paced self.old }
     {
         self.pacing = None;
+    }
+
+    /// The pacer holds a datagram back until a time.
+    pub fn hold_back(&mut self, until: Option<Instant>)
+        ensures { self.new ≡ timers_held self.old until }
+    {
+        self.pacing = until;
     }
 
     /// The ACK that was held back is owed at last.

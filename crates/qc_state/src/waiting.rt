@@ -1,10 +1,10 @@
 //! The frames that wait to be sealed.
 
-ghost use Rattle.std.specs.Prelude.{◌≡◌, ◌-◌, ◌==◌, not, true, map, OnOk, IfOk};
+ghost use Rattle.std.specs.Prelude.{◌≡◌, ◌-◌, ◌==◌, not, true, false, map, OnOk, IfOk};
 ghost use Rattle.std.specs.List.{list_any};
 ghost use Rattle.qc_base.specs.Time.{plus};
 ghost use Rattle.qc_frame.specs.Frame.{owned};
-ghost use Rattle.qc_state.specs.Acks.{AckPart, is_ack, is_ack_owed, may_acknowledge};
+ghost use Rattle.qc_state.specs.Acks.{AckPart, IsLongAck, is_ack, is_ack_owed, may_acknowledge};
 ghost use Rattle.qc_base.specs.declared.side.SpaceId.TheVariants.{«Data»};
 ghost use Rattle.qc_path.specs.Acks.{sets_delay};
 ghost use Rattle.qc_state.specs.Spaces.{is_space, space_of, with_space};
@@ -20,7 +20,7 @@ use crate::crypto_queue::CryptoQueue;
 use crate::lower::Lower;
 use crate::settling::{acknowledge, all_again, lose};
 use crate::spaces::Spaces;
-use crate::taking::{ack_alone, is_ack_owed, take};
+use crate::taking::{ack_alone, ack_fits, is_ack_owed, take};
 use bytes::Bytes;
 use qc_base::{EcnCodepoint, Instant, SpaceId};
 use qc_flight::PacketList;
@@ -49,8 +49,6 @@ pub struct SpaceWaiting {
     pub marks: Option<EcnCounts>,
     /// How many probes are due (RFC 9002, 6.2.4).
     pub probes: u64,
-    /// Whether a packet of the space was sealed since a close began to be owed (RFC 9000, 10.2).
-    pub told: bool,
 }
 
 /// What waits to be sealed.
@@ -267,28 +265,17 @@ impl Waiting {
         }
     }
 
-    /// A close is owed from now on; while one is owed, nothing begins anew.
+    /// A close is owed from now on.
     pub fn owe_close(&mut self)
         ensures { self.new ≡ close_begun self.old }
     {
-        if self.close_owed {
-            return;
-        }
-        self.spaces.initial.told = false;
-        self.spaces.handshake.told = false;
-        self.spaces.application.told = false;
         self.close_owed = true;
     }
 
-    /// A packet of the space was sealed: in the last one, a close is owed no longer.
-    pub fn tell(&mut self, space: SpaceId, last: bool)
-        ensures { self.new ≡ packet_told self.old space last }
+    /// A packet was sealed: in the last of the spaces, a close is owed no longer.
+    pub fn tell(&mut self, last: bool)
+        ensures { self.new ≡ packet_told self.old last }
     {
-        match space {
-            SpaceId::Initial => self.spaces.initial.told = true,
-            SpaceId::Handshake => self.spaces.handshake.told = true,
-            SpaceId::Data => self.spaces.application.told = true,
-        }
         if last {
             self.close_owed = false;
         }
@@ -438,6 +425,19 @@ impl Waiting {
                 room,
             ),
         }
+    }
+
+    /// Whether the ACK of the space at a time has so much room, where there is one. Want of memory is the only refusal.
+    pub fn ack_fits(
+        &self,
+        alloc: Global,
+        now: Instant,
+        space: SpaceId,
+        room: usize,
+    ) -> Result<bool, AllocError>
+        ensures { IfOk result (λ fits. fits ≡ false → IsLongAck now (space_of self.now.spaces space) room) }
+    {
+        ack_fits(self.spaces.get(space), alloc, now, room)
     }
 
     /// Takes the ACK of the space at a time, where there is something to acknowledge and so much room for it. Want of memory is the

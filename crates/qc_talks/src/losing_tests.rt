@@ -7,12 +7,15 @@ use std::alloc::Global;
 use std::process::Abort;
 use std::test::Fail;
 
-/// A time by which every loss timer of these handshakes has come, in nanoseconds; an idle connection ends later, 30 s after the last
-/// packet that came.
+/// A time within which the next loss timer of these conversations comes, in nanoseconds; an idle connection ends later, 30 s after the
+/// last packet that came.
 const LONG: u64 = 20_000_000_000;
 
 /// More rounds than any of these conversations takes.
-const ROUNDS: u32 = 500;
+const ROUNDS: u32 = 5000;
+
+/// How many bytes a datagram has at least that is a large one.
+const LARGE: usize = 1000;
 
 /// Which datagrams are lost, counted from 0.
 #[derive(Clone, Copy)]
@@ -21,55 +24,95 @@ pub(crate) enum Lost {
     One(u32),
     /// Each fifth.
     EachFifth,
+    /// Each fifth of the large ones of each end.
+    EachFifthLarge,
 }
 
-/// What lies between the ends: how many datagrams were sent so far, and which ones are lost.
+/// What lies between the ends: how many datagrams were sent so far, how many large ones by the client and by the server, and which ones
+/// are lost.
 #[derive(Drop)]
 pub(crate) struct Road {
     sent: u32,
+    of_client: u32,
+    of_server: u32,
     lost: Lost,
 }
 
 impl Road {
     /// No datagram was sent.
     pub(crate) fn new(lost: Lost) -> Road {
-        Road { sent: 0, lost }
+        Road {
+            sent: 0,
+            of_client: 0,
+            of_server: 0,
+            lost,
+        }
     }
 
-    /// Whether the next datagram is lost.
-    fn loses(&self) -> bool {
+    /// A large datagram is sent by an end. Says how many it sent before.
+    fn count_large(&mut self, is_clients: bool) -> u32 {
+        if is_clients {
+            let before = self.of_client;
+            self.of_client = before.saturating_add(1);
+            before
+        } else {
+            let before = self.of_server;
+            self.of_server = before.saturating_add(1);
+            before
+        }
+    }
+
+    /// A datagram of so many bytes is sent by an end. Says whether it is lost.
+    fn loses(&mut self, is_clients: bool, size: usize) -> bool {
+        let sent = self.sent;
+        self.sent = sent.saturating_add(1);
         match self.lost {
-            Lost::One(at) => self.sent == at,
-            Lost::EachFifth => self.sent % 5 == 4,
+            Lost::One(at) => sent == at,
+            Lost::EachFifth => sent % 5 == 4,
+            Lost::EachFifthLarge => size >= LARGE && self.count_large(is_clients) % 5 == 4,
         }
     }
 }
 
-/// Carries a flight of an end to the other, but for the datagram that is lost. Says how many datagrams were sent.
+/// Carries a flight of an end to the other, but for the datagrams that are lost. Says how many datagrams were sent.
 fn carry_flight(
     alloc: Global,
     from: &mut End,
     to: &mut End,
     nanos: u64,
+    is_clients: bool,
     road: &mut Road,
 ) -> Result<usize, Fail> {
     let flight = from.flight(alloc, nanos)?;
     for datagram in flight.as_slice() {
-        if !road.loses() {
+        if !road.loses(is_clients, datagram.len()) {
             to.takes(alloc, nanos, from.address, None, datagram.as_slice())?;
         }
-        road.sent = road.sent.saturating_add(1);
     }
     Ok(flight.len())
+}
+
+/// Carries a flight of the client's or of the server's, a microsecond later, and says how many datagrams were sent.
+fn carry_lossy(
+    alloc: Global,
+    pair: &mut Pair,
+    is_clients: bool,
+    road: &mut Road,
+) -> Result<usize, Fail> {
+    pair.wait();
+    let (client, server) = (&mut pair.client, &mut pair.server);
+    if is_clients {
+        carry_flight(alloc, client, server, pair.nanos, true, road)
+    } else {
+        carry_flight(alloc, server, client, pair.nanos, false, road)
+    }
 }
 
 /// Carries flights both ways until neither end sends, the client's first.
 fn carry_flights(alloc: Global, pair: &mut Pair, road: &mut Road) -> Result<(), Fail> {
     for _ in 0..ROUNDS {
-        pair.wait();
-        let sent = carry_flight(alloc, &mut pair.client, &mut pair.server, pair.nanos, road)?;
-        pair.wait();
-        let answered = carry_flight(alloc, &mut pair.server, &mut pair.client, pair.nanos, road)?;
+        let sent = carry_lossy(alloc, pair, true, road)?;
+        let answered = carry_lossy(alloc, pair, false, road)?;
         if sent == 0 && answered == 0 {
             return Ok(());
         }
@@ -99,11 +142,11 @@ fn expire(alloc: Global, end: &mut End, nanos: u64) -> Result<(), Fail> {
     }
 }
 
-/// Waits for the timer that comes first. Says whether one came in `LONG`.
+/// Waits for the timer that comes first. Says whether one came within `LONG`.
 fn wait_for_timer(alloc: Global, pair: &mut Pair) -> Result<bool, Fail> {
     match earlier(pair.client.timer(), pair.server.timer()) {
         Some(time) => {
-            if time >= LONG {
+            if time >= pair.nanos.saturating_add(LONG) {
                 return Ok(false);
             }
             pair.nanos = pair.nanos.max(time);

@@ -45,7 +45,7 @@ fn take_all(alloc: Global, end: &mut End, nanos: u64) -> Result<(), Fail> {
 
 /// Each end writes on a stream and sends datagrams, all at once, and they are taken once what isn't lost came.
 fn converse(alloc: Global, pair: &mut Pair) -> Result<(), Fail> {
-    let mut road = Road::new(Lost::EachFifth);
+    let mut road = Road::new(Lost::EachFifthLarge);
     let of_client = StreamId::new(Side::Client, Dir::Uni, 0);
     let of_server = StreamId::new(Side::Server, Dir::Uni, 0);
     send_stream(alloc, &mut pair.client, pair.nanos, of_client)?;
@@ -77,9 +77,9 @@ fn some_come(rt: &impl Abort, alloc: Global, pair: &mut Pair) -> Result<(), Fail
     Ok(())
 }
 
-// Each end sends 100 datagrams of 1000 bytes, of which one goes in a packet, with some of the stream's bytes behind it. A flight has 20 packets, so
-// each end sends them in five, of which each fifth packet is lost with its datagram: 80 come. What is lost of the stream goes again, and of the
-// datagrams nothing does (RFC 9221, section 5).
+// Each end sends 100 datagrams of 1000 bytes, of which one goes in a packet, with some of the stream's bytes behind it. No other packet of theirs has
+// 1000 bytes before these have gone, and each fifth of those that have is lost with its datagram: 80 come. What is lost of the stream goes again,
+// and of the datagrams nothing does (RFC 9221, section 5).
 #[test]
 fn datagrams_that_come_stay_in_order(rt: HostRuntime) -> Result<(), Fail> {
     let alloc = rt.alloc();

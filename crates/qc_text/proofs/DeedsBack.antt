@@ -12,7 +12,7 @@ use Rattle.qc_state.specs.declared.deeds.Did.TheVariants as deed
 use Rattle.qc_state.specs.declared.deeds.Layer.{Layer}
 use Rattle.qc_state.specs.declared.deeds.Layer.TheVariants.{Streams, Recovery, Session, Ids, Life}
 use Rattle.qc_state.specs.declared.deeds.Quiet.{Quiet}
-use Rattle.qc_state.specs.declared.deeds.Quiet.TheVariants.{NothingOwed, Silent, Amplification, Killed}
+use Rattle.qc_state.specs.declared.deeds.Quiet.TheVariants.{NothingOwed, Silent, Amplification, Congestion, Pacing, Killed}
 use Rattle.qc_state.specs.declared.deeds.Verdict.{Verdict}
 use Rattle.qc_state.specs.declared.deeds.Verdict.TheVariants.{Ignored, Failure, BadBits, Seen, ReadForClose, NumberOnly, AckOnly, Admitted}
 use Rattle.qc_text.specs.TraceText.{number_or_dash, frames_text, space_name, option_space_name, verdict_name, layer_name, type_name, given_name, named_text, given_text, epoch_text, packet_text, sealed_text, piece_text, gave_text, quiet_name, did_text}
@@ -42,6 +42,8 @@ unfolding quiet_name
 quiet_is_token NothingOwed = refl
 quiet_is_token Silent = refl
 quiet_is_token Amplification = refl
+quiet_is_token Congestion = refl
+quiet_is_token Pacing = refl
 quiet_is_token Killed = refl
 
 quiet_injective : (a b : Quiet) → quiet_name a ≡ quiet_name b → a ≡ b
@@ -49,6 +51,8 @@ unfolding quiet_name
 quiet_injective NothingOwed NothingOwed e = refl
 quiet_injective Silent Silent e = refl
 quiet_injective Amplification Amplification e = refl
+quiet_injective Congestion Congestion e = refl
+quiet_injective Pacing Pacing e = refl
 quiet_injective Killed Killed e = refl
 quiet_injective _ _ e = absurd (omega (arith, ap (λ (a : List ℕ). get_or a 0 0) e))
 

@@ -11,7 +11,7 @@ use Rattle.qc_state.specs.declared.deeds.Did.TheVariants as deed
 use Rattle.qc_state.specs.declared.events.EndpointEvent.{EndpointEvent}
 use Rattle.qc_state.specs.declared.events.EndpointEvent.TheVariants.{ResetToken, NeedIdentifiers, RetireConnectionId, Drained}
 use Rattle.qc_state.specs.declared.events.Event.{Event}
-use Rattle.qc_state.specs.declared.events.Event.TheVariants.{HandshakeDataReady, Connected, ConnectionLost, DatagramReceived, Stream}
+use Rattle.qc_state.specs.declared.events.Event.TheVariants.{HandshakeDataReady, Connected, ConnectionLost, DatagramReceived, DatagramsUnblocked, Stream}
 use Rattle.qc_state.specs.declared.input.Word.{Word}
 use Rattle.qc_state.specs.declared.input.Word.TheVariants as word
 use Rattle.qc_state.specs.declared.trace.Answer.{Answer}
@@ -146,6 +146,7 @@ event_back (ConnectionLost a) (ConnectionLost b) r s p q e =
     let reason = reason_back a b r s p q (ap (drop 11) parts) in
     (ap ConnectionLost reason.0, reason.1)
 event_back DatagramReceived DatagramReceived r s p q e = (refl, ap (drop 15) e)
+event_back DatagramsUnblocked DatagramsUnblocked r s p q e = (refl, ap (drop 16) e)
 event_back (Stream a) (Stream b) r s p q e =
     let parts = simp append_assoc at e in
     let event = stream_event_back a b r s p q (ap (drop 13) parts) in
@@ -284,6 +285,7 @@ event_begins HandshakeDataReady r = (refl, refl)
 event_begins Connected r = (refl, refl)
 event_begins (ConnectionLost reason) r = (refl, refl)
 event_begins DatagramReceived r = (refl, refl)
+event_begins DatagramsUnblocked r = (refl, refl)
 event_begins (Stream event) r = (refl, refl)
 
 endpoint_begins : (a : EndpointEvent) (r : List ℕ) → (is_event (endpoint_text a ++ r) ≡ false) × (is_endpoint (endpoint_text a ++ r) ≡ true) × (is_after_answer (endpoint_text a ++ r) ≡ true)

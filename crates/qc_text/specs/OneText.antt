@@ -17,7 +17,7 @@ use Rattle.qc_state.specs.declared.deeds.Did.TheVariants as deed
 use Rattle.qc_state.specs.declared.events.EndpointEvent.{EndpointEvent}
 use Rattle.qc_state.specs.declared.events.EndpointEvent.TheVariants.{ResetToken, NeedIdentifiers, RetireConnectionId, Drained}
 use Rattle.qc_state.specs.declared.events.Event.{Event}
-use Rattle.qc_state.specs.declared.events.Event.TheVariants.{HandshakeDataReady, Connected, ConnectionLost, DatagramReceived, Stream}
+use Rattle.qc_state.specs.declared.events.Event.TheVariants.{HandshakeDataReady, Connected, ConnectionLost, DatagramReceived, DatagramsUnblocked, Stream}
 use Rattle.qc_state.specs.declared.life.ConnectionError.{ConnectionError}
 use Rattle.qc_state.specs.declared.life.ConnectionError.TheVariants.{TransportError, ConnectionClosed, ApplicationClosed, TimedOut}
 use Rattle.qc_state.specs.declared.life.Life.{Life}
@@ -122,6 +122,7 @@ IsEventInRange HandshakeDataReady = Unit {0}
 IsEventInRange Connected = Unit {0}
 IsEventInRange (ConnectionLost reason) = IsReasonInRange reason
 IsEventInRange DatagramReceived = Unit {0}
+IsEventInRange DatagramsUnblocked = Unit {0}
 IsEventInRange (Stream event) = IsStreamEventInRange event
 
 -- a token is bytes, and holds for an address in range; the time at which identifiers are wanted and how many they are have

@@ -22,13 +22,13 @@ use Rattle.qc_state.specs.declared.deeds.Did.TheVariants as deed
 use Rattle.qc_state.specs.declared.deeds.Layer.{Layer}
 use Rattle.qc_state.specs.declared.deeds.Layer.TheVariants.{Streams, Recovery, Session, Ids, Life}
 use Rattle.qc_state.specs.declared.deeds.Quiet.{Quiet}
-use Rattle.qc_state.specs.declared.deeds.Quiet.TheVariants.{NothingOwed, Silent, Amplification, Killed}
+use Rattle.qc_state.specs.declared.deeds.Quiet.TheVariants.{NothingOwed, Silent, Amplification, Congestion, Pacing, Killed}
 use Rattle.qc_state.specs.declared.deeds.Verdict.{Verdict}
 use Rattle.qc_state.specs.declared.deeds.Verdict.TheVariants.{Ignored, Failure, BadBits, Seen, ReadForClose, NumberOnly, AckOnly, Admitted}
 use Rattle.qc_state.specs.declared.events.EndpointEvent.{EndpointEvent}
 use Rattle.qc_state.specs.declared.events.EndpointEvent.TheVariants.{ResetToken, NeedIdentifiers, RetireConnectionId, Drained}
 use Rattle.qc_state.specs.declared.events.Event.{Event}
-use Rattle.qc_state.specs.declared.events.Event.TheVariants.{HandshakeDataReady, Connected, ConnectionLost, DatagramReceived, Stream}
+use Rattle.qc_state.specs.declared.events.Event.TheVariants.{HandshakeDataReady, Connected, ConnectionLost, DatagramReceived, DatagramsUnblocked, Stream}
 use Rattle.qc_state.specs.declared.input.Word.{Word}
 use Rattle.qc_state.specs.declared.input.Word.TheVariants as word
 use Rattle.qc_state.specs.declared.life.ConnectionError.{ConnectionError}
@@ -229,6 +229,8 @@ unfoldable pub quiet_name : Quiet → List ℕ
 quiet_name NothingOwed = codes "NothingOwed"
 quiet_name Silent = codes "Silent"
 quiet_name Amplification = codes "Amplification"
+quiet_name Congestion = codes "Congestion"
+quiet_name Pacing = codes "Pacing"
 quiet_name Killed = codes "Killed"
 
 -- the line of a deed: a packet that was sealed, one that came, what a layer was given, a rise in the life, a reason for
@@ -313,12 +315,13 @@ stream_event_text (streamed.Finished id) = codes "Finished " ++ decimal id
 stream_event_text (streamed.Available dir) = codes "Available " ++ dir_name dir
 
 -- the line of what the application is told: that what the handshake settles is known, that the handshake is over, that the
--- connection was lost, and why, that a datagram came, or what happened on a stream
+-- connection was lost, and why, that a datagram came, that there is room for datagrams again, or what happened on a stream
 unfoldable pub event_text : Event → List ℕ
 event_text HandshakeDataReady = codes "event handshake-data\n"
 event_text Connected = codes "event connected\n"
 event_text (ConnectionLost reason) = codes "event lost " ++ reason_text reason ++ codes "\n"
 event_text DatagramReceived = codes "event datagram\n"
+event_text DatagramsUnblocked = codes "event unblocked\n"
 event_text (Stream event) = codes "event stream " ++ stream_event_text event ++ codes "\n"
 
 -- the line of the peer's token for a stateless reset: the address that it holds for, and the token (RFC 9000, section 10.3)

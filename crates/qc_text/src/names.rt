@@ -178,6 +178,8 @@ pub fn quiet_of(quiet: Quiet) -> &'static [u8]
         Quiet::NothingOwed => b"NothingOwed",
         Quiet::Silent => b"Silent",
         Quiet::Amplification => b"Amplification",
+        Quiet::Congestion => b"Congestion",
+        Quiet::Pacing => b"Pacing",
         Quiet::Killed => b"Killed",
     }
 }

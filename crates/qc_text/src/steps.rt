@@ -155,6 +155,7 @@ fn put_event(out: &mut Vec<u8>, event: &Event) -> Result<(), AllocError>
         Event::Connected => out.extend_from_slice(b"event connected\n"),
         Event::ConnectionLost { reason } => put_reason(out, b"event lost ", reason),
         Event::DatagramReceived => out.extend_from_slice(b"event datagram\n"),
+        Event::DatagramsUnblocked => out.extend_from_slice(b"event unblocked\n"),
         Event::Stream(event) => put_stream_event(out, b"event stream ", *event),
     }
 }

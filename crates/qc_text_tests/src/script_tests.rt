@@ -547,7 +547,7 @@ fn other_lines_are_bad(rt: HostRuntime) -> Result<(), Fail> {
 }
 
 /// For which values there is a set line, in the order of the lines.
-fn are_set(settings: &Settings) -> [bool; 12] {
+fn are_set(settings: &Settings) -> [bool; 13] {
     [
         settings.random.is_some(),
         settings.time.is_some(),
@@ -561,6 +561,7 @@ fn are_set(settings: &Settings) -> [bool; 12] {
         settings.limit_handshake.is_some(),
         settings.limit_failures.is_some(),
         settings.idle.is_some(),
+        settings.gso.is_some(),
     ]
 }
 
@@ -578,6 +579,7 @@ const EACH_LINE: &[(&str, &str)] = &[
     ("server", "set limit_handshake 0"),
     ("server", "set limit_failures 0"),
     ("server", "set idle 0"),
+    ("server", "set gso 0"),
 ];
 
 /// Whether a script of this side with this line has a value for the set line at this place alone, and no input.
@@ -606,7 +608,7 @@ fn each_set_line_stands_alone(rt: HostRuntime) -> Result<(), Fail> {
 
 /// Every set line that a server has, and one input.
 const EVERY_LINE: &str =
-    "set side server\nset random 000102030405060708090a0b0c0d0e0f101112131415161718191a1b1c1d1e1f\nset time 5\nset local 0a0b\nset remote -\nset first 0102030405060708\nset addr c0000201/443\nset secret 00ff010203\nset limit_initial 2\nset limit_handshake 30\nset limit_failures 18446744073709551615\nset idle 30000\nping 6\n";
+    "set side server\nset random 000102030405060708090a0b0c0d0e0f101112131415161718191a1b1c1d1e1f\nset time 5\nset local 0a0b\nset remote -\nset first 0102030405060708\nset addr c0000201/443\nset secret 00ff010203\nset limit_initial 2\nset limit_handshake 30\nset limit_failures 18446744073709551615\nset idle 30000\nset gso 1\nping 6\n";
 
 /// The values of those lines.
 fn check_every_line(rt: &impl Abort, settings: &Settings) {
@@ -628,6 +630,7 @@ fn check_every_line(rt: &impl Abort, settings: &Settings) {
     assert_eq!(rt; settings.limit_handshake, Some(30));
     assert_eq!(rt; settings.limit_failures, Some(u64::MAX));
     assert_eq!(rt; settings.idle, Some(VarInt::from_u32(30_000)));
+    assert_eq!(rt; settings.gso, Some(true));
 }
 
 #[test]
@@ -638,6 +641,16 @@ fn a_server_has_every_set_line_but_one(rt: HostRuntime) -> Result<(), Fail> {
     };
     check_every_line(&rt, &script.settings);
     assert_eq!(rt; script.inputs.len(), 1);
+    Ok(())
+}
+
+// A flag is a digit: 0 says no, and 1 yes.
+#[test]
+fn a_flag_is_a_digit(rt: HostRuntime) -> Result<(), Fail> {
+    for (line, flag) in [("set gso 0", false), ("set gso 1", true)] {
+        let script = script_of(rt.alloc(), "server", line)?;
+        assert_eq!(rt; script.settings.gso, Some(flag), "{line:?}");
+    }
     Ok(())
 }
 
@@ -716,6 +729,15 @@ const SET_LINES: &[(&str, bool)] = &[
     ("set limit_failures 18446744073709551616", true),
     ("set idle 4611686018427387903", false),
     ("set idle 4611686018427387904", true),
+    ("set gso 0", false),
+    ("set gso 1", false),
+    ("set gso 2", true),
+    ("set gso 00", true),
+    ("set gso 10", true),
+    ("set gso ", true),
+    ("set gso", true),
+    ("set gso -", true),
+    ("set gso true", true),
     ("set local 0A", true),
     ("set limit_initial 02", true),
     ("set limit_handshake 00", true),
@@ -754,6 +776,9 @@ fn set_lines_stand_once_and_in_order(rt: HostRuntime) -> Result<(), Fail> {
         "set limit_failures 1\nset limit_handshake 1",
         "set limit_failures 1\nset limit_initial 1",
         "set idle 0\nset limit_failures 1",
+        "set gso 1\nset gso 1",
+        "set gso 0\nset gso 1",
+        "set gso 1\nset idle 0",
     ] {
         let text = format!(in rt.alloc(); "set side client\n{lines}\nping 0\n")?;
         assert_eq!(rt; bad_line(rt.alloc(), text.as_str())?, Some(3), "{lines:?}");

@@ -654,11 +654,12 @@ fn bytes_that_are_read(rt: HostRuntime) -> Result<(), Fail> {
     Ok(())
 }
 
-/// That a datagram came, and what may happen on a stream, or to how many there may be.
+/// That a datagram came, that there is room for others again, and what may happen on a stream, or to how many there may be.
 fn put_stream_events(events: &mut Events) -> Result<(), AllocError> {
     let id = StreamId::new(Side::Client, Dir::Bi, 0);
     let error_code = VarInt::from_u32(7);
     events.push_datagram()?;
+    events.push_unblocked()?;
     events.push_stream(StreamEvent::Opened { dir: Dir::Bi })?;
     events.push_stream(StreamEvent::Readable { id })?;
     events.push_stream(StreamEvent::Writable { id })?;
@@ -680,7 +681,7 @@ fn stream_events_step(alloc: Global) -> Result<Step, AllocError> {
 fn events_of_streams(rt: HostRuntime) -> Result<(), Fail> {
     let step = stream_events_step(rt.alloc())?;
     let told =
-        "qconn 1\nstep 0 datagram 5\nanswer done\nevent datagram\nevent stream Opened bi\nevent stream Readable 0\nevent stream Writable 0\nevent stream Finished 0\nevent stream Stopped 0 7\nevent stream Available uni\ntimer -\nend\n";
+        "qconn 1\nstep 0 datagram 5\nanswer done\nevent datagram\nevent unblocked\nevent stream Opened bi\nevent stream Readable 0\nevent stream Writable 0\nevent stream Finished 0\nevent stream Stopped 0 7\nevent stream Available uni\ntimer -\nend\n";
     assert!(rt; is_text(rt.alloc(), step, told)?);
     Ok(())
 }

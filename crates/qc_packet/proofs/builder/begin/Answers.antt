@@ -1,18 +1,14 @@
-use Rattle.std.proofs.Common.{◌≡◌, ℕ, ◌+◌, ◌∙◌, ◌<◌, List, length, sym, ap, arith, length-append}
+use Rattle.std.proofs.Common.{◌≡◌, ℕ, ◌+◌, ◌∙◌, List, length, sym, ap, arith, length-append}
 use Rattle.qc_packet.specs.PacketSpelling.{with_flip}
 use Rattle.qc_packet.proofs.Finishes.{flip_len}
-use Rattle.qc_packet.specs.Building.{pn_len, header_len}
 use Rattle.qc_packet.proofs.Full.{begun_sound}
-use Rattle.qc_packet.proofs.Sealed.{longer_than_number}
-use Rattle.qc_header.specs.HeaderSpelling.{header_number, header_spelling}
+use Rattle.qc_header.specs.HeaderSpelling.{header_spelling}
 use Rattle.qc_packet.proofs.builder.begin.Goals as goal
 
 -- the sizes leave room for what sealing adds
 pub returns-clause-sound : goal.returns-clause-sound
 returns-clause-sound c some =
-    let behind = longer_than_number (header_number c.args.header.now) c.encoded_len.result some c.encoded_len.ensures.behind in
-    let longer : pn_len c.args.header.now < header_len c.args.header.now = omega (arith, behind, c.encoded_len.ensures.len 0) in
-    let s = begun_sound c.args.space c.args.number c.args.header.now c.len-start.result c.args.capacity c.args.datagram_start c.args.ack_eliciting (omega arith) longer some in
+    let s = begun_sound c.args.space c.args.number c.args.header.now c.len-start.result c.args.capacity c.args.datagram_start c.args.ack_eliciting (omega arith) some in
     record {
       numbered = omega (arith, s.numbered, c.number_len.ensures.value);
       first = omega (arith, s.first, c.number_len.ensures.value, c.encoded_len.ensures.len 0);

@@ -2,7 +2,7 @@ use Rattle.std.proofs.Common.{ℕ, List, ◌++◌, codes, Option, Result, Ok, Er
 use Rattle.qc_base.specs.declared.side.Side.{Side}
 use Rattle.qc_script.specs.declared.settings.Setting.{Setting}
 use Rattle.qc_script.specs.Items.{IsSettingRead}
-use Rattle.qc_script.proofs.SettingLemmas.{no_set_word}
+use Rattle.qc_script.proofs.SettingLemmas.{last_read}
 use Rattle.qc_script.proofs.set_lines.read_setting.Goals as goal
 
 on_side : {E : Type 0} → (r : Result (Option Setting) E) (text : List ℕ) (side : Side) → IfOk r (λ x. (side : Side) → IsSettingRead side text x) → IfOk r (IsSettingRead side text)
@@ -27,8 +27,6 @@ returns-in-Some-after_word-9 c = rw c.in-Some-after_word-9.ensures (c.limit_hand
 pub returns-in-Some-after_word-10 : goal.returns-in-Some-after_word-10
 returns-in-Some-after_word-10 c = rw c.in-Some-after_word-10.ensures (c.limit_failures_line.ensures c.args.side)
 
-pub returns-in-Some-after_word-11 : goal.returns-in-Some-after_word-11
-returns-in-Some-after_word-11 c = rw c.in-Some-after_word-11.ensures (c.idle_line.ensures c.args.side)
-
-pub returns-in-None : goal.returns-in-None
-returns-in-None c = no_set_word c.args.text.now c.in_default.ensures c.in_default-after_word.ensures c.in_default-after_word-2.ensures c.in_default-after_word-3.ensures c.in_default-after_word-4.ensures c.in_default-after_word-5.ensures c.in_default-after_word-6.ensures c.in_default-after_word-7.ensures c.in_default-after_word-8.ensures c.in_default-after_word-9.ensures c.in_default-after_word-10.ensures c.in-None.ensures c.args.side
+pub returns : goal.returns
+returns c = last_read c.args.text.now c.in_default.ensures c.in_default-after_word.ensures c.in_default-after_word-2.ensures c.in_default-after_word-3.ensures c.in_default-after_word-4.ensures c.in_default-after_word-5.ensures
+    c.in_default-after_word-6.ensures c.in_default-after_word-7.ensures c.in_default-after_word-8.ensures c.in_default-after_word-9.ensures c.in_default-after_word-10.ensures c.transport_line.result c.transport_line.ensures c.args.side

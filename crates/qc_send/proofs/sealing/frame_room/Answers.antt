@@ -1,4 +1,4 @@
-use Rattle.std.proofs.Common.{ap, ◌∙◌}
+use Rattle.std.proofs.Common.{ap, ◌∙◌, ◌-◌, ℕ}
 use Rattle.qc_state.specs.Setup.{ideal_setup}
 use Rattle.qc_state.specs.View.{ideal}
 use Rattle.qc_send.proofs.Drawing.{room_is}
@@ -9,4 +9,4 @@ pub returns-clause-value : goal.returns-clause-value
 unfolding ideal_setup
 returns-clause-value g c =
     room_is c.args.left (ideal g.U.Random.Rng.stream c.args.core.now) c.args.form c.header_with.result c.as_slice.result.now c.new.result c.encoded_len-bare.result c.saturating_sub-room.result c.token_bytes.result c.saturating_sub.result
-    c.new.ensures c.header_with.ensures (c.encoded_len-bare.ensures.len 0) c.saturating_sub-room.ensures (c.as_slice.ensures ∙ ap (λ v. v.setup.initial_token) c.core.view_is) c.token_bytes.ensures c.saturating_sub.ensures
+    c.new.ensures c.header_with.ensures (c.encoded_len-bare.ensures.len 0) (c.saturating_sub-room.ensures ∙ ap (λ (n : ℕ). n - c.encoded_len-bare.result) c.saturating_sub-rest.ensures) (c.as_slice.ensures ∙ ap (λ v. v.setup.initial_token) c.core.view_is) c.token_bytes.ensures c.saturating_sub.ensures

@@ -1,5 +1,6 @@
 use Rattle.std.proofs.Common.{ap}
 use Rattle.std.specs.Option.{option_copied}
+use Rattle.qc_send.proofs.Built.{asked_fits, frames_fit, sample_fits}
 use Rattle.qc_send.proofs.Drawing.{header_key_there, packet_key_there, slot_there}
 use Rattle.qc_send.proofs.sealing.seal_with.Goals as goal
 
@@ -14,3 +15,13 @@ unreachable-requires-in-None-packet_key g c =
 -- and so a slot
 pub unreachable-requires-in-None-slot : goal.unreachable-requires-in-None-slot
 unreachable-requires-in-None-slot g c = slot_there g.U.Random.Rng.stream c.args.core.now c.args.form c.args.flip c.slot.result c.requires.keyed c.slot.ensures c.in-None-slot.is
+
+-- its Length stays short
+pub seal_padded-requires-clause-sized : goal.seal_padded-requires-clause-sized
+seal_padded-requires-clause-sized g c = sample_fits c.args.left c.args.header.now c.requires.most c.requires.sized
+
+pub seal_padded-requires-clause-room : goal.seal_padded-requires-clause-room
+seal_padded-requires-clause-room g c = frames_fit c.args.left _ c.args.header.now c.requires.most c.requires.room
+
+pub seal_padded-requires-clause-least : goal.seal_padded-requires-clause-least
+seal_padded-requires-clause-least g c = asked_fits c.args.left c.args.least c.args.header.now c.requires.most c.requires.sized c.requires.small

@@ -6,8 +6,8 @@ use Rattle.qc_conn.proofs.connection.Connection.poll_transmit.Goals as goal
 
 -- the greatest time
 pub returns-in-Ok-clause-clock : goal.returns-in-Ok-clause-clock
-returns-in-Ok-clause-clock g c = sent_clock _ c.args.now _ _ _ _ c.in-Ok.ensures ∙ ap (λ v. max v.core.timers.greatest c.args.now) c.self.view_is
+returns-in-Ok-clause-clock g c = sent_clock _ c.args.now _ _ _ _ _ c.in-Ok.ensures ∙ ap (λ v. max v.core.timers.greatest c.args.now) c.self.view_is
 
 -- the mark
 pub returns-in-Ok-clause-alive : goal.returns-in-Ok-clause-alive
-returns-in-Ok-clause-alive g c = sent_mark _ c.args.now _ _ _ _ c.in-Ok.ensures ∙ ap (λ v. v.failed) c.self.view_is ∙ sym c.if-is_failed.ensures
+returns-in-Ok-clause-alive g c = sent_mark _ c.args.now _ _ _ _ _ c.in-Ok.ensures ∙ ap (λ v. v.failed) c.self.view_is ∙ sym c.if-is_failed.ensures

@@ -1,12 +1,12 @@
 use Rattle.qc_state.specs.View.{ideal}
 use Rattle.qc_send.proofs.ClosingFrames.{reason_kept, close_pushed, ack_by}
-use Rattle.qc_send.proofs.Takes.{close_taken, takes_close}
-use Rattle.qc_send.proofs.sealing.take_close.Goals as goal
+use Rattle.qc_send.proofs.Takes.{close_taken, closes_so}
+use Rattle.qc_send.proofs.taking.take_close.Goals as goal
 
 -- the ACK, where there is something to acknowledge and room for it, and the close
 pub returns-clause-frames : goal.returns-clause-frames
 returns-clause-frames g c =
-    takes_close _ _ (ideal g.U.Random.Rng.stream c.args.core.now) _ _ c.kept_reason.result.now c.in_ok-frames.frames _ c.requires.owed
+    closes_so _ (ideal g.U.Random.Rng.stream c.args.core.now) _ _ c.kept_reason.result.now c.in_ok-frames.frames _
     (ack_by _ _ _ _ _ _ c.saturating_sub-most.ensures c.in_ok-frames.ensures.frames)
     (reason_kept (ideal g.U.Random.Rng.stream c.args.core.now) _ _ _ _ _ _ c.in_ok-frames.ensures.leads c.in_ok-left.ensures c.kept_reason.ensures)
     (close_pushed (ideal g.U.Random.Rng.stream c.args.core.now) _ _ _ _ _ _ c.in_ok-frames.ensures.leads c.in_ok-close.ensures c.in_ok-push.ensures.ok)

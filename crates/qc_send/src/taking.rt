@@ -1,0 +1,118 @@
+//! The frames that a packet takes: those that wait, or the close.
+
+ghost use Rattle.std.specs.Prelude.{◌≡◌, ◌-◌, ◌&&◌, ◌||◌, ◌⊎◌, true, length, IfOk};
+ghost use Rattle.std.specs.List.{list_any};
+ghost use Rattle.qc_base.specs.declared.side.SpaceId.TheVariants.{«Data»};
+ghost use Rattle.qc_frame.specs.FrameSpelling.{elicits, frames_spelling};
+ghost use Rattle.qc_send.specs.Taking.{OwesAckAlone, TakenNow};
+ghost use Rattle.qc_state.specs.Acks.{is_ack};
+ghost use Rattle.qc_state.specs.Datagrams.{AllOldest};
+ghost use Rattle.qc_state.specs.Forms.{number_space};
+ghost use Rattle.qc_state.specs.Ids.{AllNext};
+ghost use Rattle.qc_state.specs.Moves.{Take, state_move};
+ghost use Rattle.qc_state.specs.Sending.{Closes, holds_owed};
+ghost use Rattle.qc_state.specs.Spaces.{is_space, space_of};
+ghost use Rattle.qc_state.specs.StreamFrames.{sealed_steps};
+ghost use Rattle.qc_state.specs.Taking.{TakenPart};
+ghost use Rattle.qc_state.specs.View.{ideal};
+ghost use Rattle.qc_streams.specs.Steps.{AllMay};
+
+use crate::closing::{closing_frame, kept_reason};
+use crate::owing::owes_ack;
+use crate::sealing::GREATEST_CLOSE;
+use qc_base::{Instant, SpaceId};
+use qc_core::Core;
+use qc_frame::FrameList;
+use qc_state::waiting::holds_ack;
+use qc_state::{Form, Suite};
+use std::alloc::{AllocError, Global};
+
+/// How much room of `room` these frames leave. Want of memory is the only refusal.
+fn room_left(alloc: Global, room: usize, frames: &FrameList) -> Result<usize, AllocError>
+    ensures { IfOk result (λ left. left ≡ room - length (frames_spelling frames.now)) }
+{
+    let mut bytes = Vec::new(alloc);
+    frames.put(&mut bytes)?;
+    Ok(room.saturating_sub(bytes.len()))
+}
+
+/// Takes the ACK, where there is something to acknowledge and it leaves room for the greatest close without a reason, and the
+/// close.
+fn take_close<U: Suite>(
+    core: &mut Core<U>,
+    alloc: Global,
+    now: Instant,
+    space: SpaceId,
+    room: usize,
+) -> Result<FrameList, AllocError>
+    ensures frames { IfOk result (λ frames. Closes now (ideal U.Random.stream core.old) space room frames) }
+    ensures leads { IfOk result (λ frames. (ideal U.Random.stream core.new) ≡ state_move (Take space frames) (ideal U.Random.stream core.old)) }
+{
+    let most = room.saturating_sub(GREATEST_CLOSE);
+    let mut frames = core.do_take_ack(alloc, now, space, most)?;
+    let left = room_left(alloc, room, &frames)?;
+    let close = closing_frame(core, alloc, space, kept_reason(core, left))?;
+    frames.push(close)?;
+    Ok(frames)
+}
+
+/// Whether these frames make a packet: one of them elicits an acknowledgement, or is the ACK, where `owes` says that it is owed; or the packet
+/// is the first of its transmit, and `alone` says that an ACK is all that is owed.
+fn makes_packet(frames: &FrameList, owes: bool, first: bool, alone: bool) -> bool
+    ensures { result ≡ ((list_any elicits frames.now || (owes && list_any is_ack frames.now)) || (first && alone)) }
+{
+    (frames.elicits() || (owes && holds_ack(frames))) || (first && alone)
+}
+
+/// Takes frames that wait at a time for a packet of this space with so much room. Among them is something that the space owes, unless the packet
+/// is the first of its transmit, and an ACK is all that is owed. Want of memory is the only refusal.
+fn take_waiting<U: Suite>(
+    core: &mut Core<U>,
+    alloc: Global,
+    now: Instant,
+    first: bool,
+    space: SpaceId,
+    room: usize,
+) -> Result<FrameList, AllocError>
+    ensures part { IfOk result (λ frames. TakenPart now core.old.waiting.bundled (is_space space «Data») (space_of core.old.waiting.spaces space) room frames) }
+    ensures may { IfOk result (λ frames. AllMay (sealed_steps frames) core.old.lower.streams) }
+    ensures oldest { IfOk result (λ frames. AllOldest frames core.old.lower.datagrams) }
+    ensures next { IfOk result (λ frames. AllNext frames core.old.lower.ids) }
+    ensures some { IfOk result (λ frames. (holds_owed (ideal U.Random.stream core.old) space frames ≡ true) ⊎ ((first ≡ true) × OwesAckAlone (ideal U.Random.stream core.old) space)) }
+    ensures leads { IfOk result (λ frames. (ideal U.Random.stream core.new) ≡ state_move (Take space frames) (ideal U.Random.stream core.old)) }
+{
+    let owes = owes_ack(core, space);
+    let alone = core.owes_ack_alone(space);
+    let frames = core.do_take(alloc, now, space, room)?;
+    // A frame that waits is taken where there is room for 25 bytes, and more there is in each packet; one about connection ids where
+    // there is room for 54, and more there is in each 1-RTT packet; a DATAGRAM that waits where it fits alone, as it does: this refusal
+    // doesn't come.
+    let makes = makes_packet(&frames, owes, first, alone);
+    if !makes {
+        return Err(AllocError);
+    }
+    Ok(frames)
+}
+
+/// Takes frames at a time for a packet of this form, with so much room: in a transmit that began with a close owed, the close, with an ACK in
+/// front; else frames that wait. `first` says that the packet is the first of its transmit. Want of memory is the only refusal.
+pub(crate) fn take<U: Suite>(
+    core: &mut Core<U>,
+    alloc: Global,
+    now: Instant,
+    closing: bool,
+    first: bool,
+    form: Form,
+    room: usize,
+) -> Result<FrameList, AllocError>
+    ensures frames { IfOk result (λ frames. TakenNow closing first now (ideal U.Random.stream core.old) (number_space form) room frames) }
+    ensures leads { IfOk result (λ frames. (ideal U.Random.stream core.new) ≡ state_move (Take (number_space form) frames) (ideal U.Random.stream core.old)) }
+{
+    let space = form.space();
+    if closing {
+        let frames = take_close(core, alloc, now, space, room)?;
+        return Ok(frames);
+    }
+    let taken = take_waiting(core, alloc, now, first, space, room)?;
+    Ok(taken)
+}
