@@ -140,7 +140,7 @@ taken_waits : (time : ℕ) (bundled : Option ℕ) (in_data : Bool) (w : SpaceWai
     HereAll time bundled w (front_of w taken.acks taken.crypto) × HereAll time bundled (without_all w (front_of w taken.acks taken.crypto)) taken.last
 unfolding marks_part done_part ping_part
 taken_waits time bundled in_data w room fs taken =
-    front_waits time (room - length (marks_part w)) (room - length (marks_part w) - length (frames_spelling taken.acks)) taken.left bundled w
+    front_waits time taken.most (room - length (marks_part w) - length (frames_spelling taken.acks)) taken.left bundled w
     taken.acks taken.crypto taken.last w.done w.ping refl refl taken.ack taken.part taken.bundle
 
 -- without a mark none is taken
@@ -158,11 +158,11 @@ owed_or_long : (time : ℕ) (bundled : Option ℕ) (in_data : Bool) (w : SpaceWa
     (list_any is_ack fs ≡ true) ⊎ IsLongAck time w room
 owed_or_long time bundled in_data w room fs taken none owed = by_ack (is_ack_first w.acks) refl taken.ack
   where
-    by_ack : (b : Bool) → is_ack_first w.acks ≡ b → AckPart time w (room - length (marks_part w)) taken.acks b → (list_any is_ack fs ≡ true) ⊎ IsLongAck time w room
+    by_ack : (b : Bool) → is_ack_first w.acks ≡ b → AckPart time w taken.most taken.acks b → (list_any is_ack fs ≡ true) ⊎ IsLongAck time w room
     by_ack true e (AckPart.one ack says fits is) =
         inl (ap (list_any is_ack) (taken.all ∙ ap (λ (xs : List FrameValue). xs ++ (taken.acks ++ (taken.crypto ++ (taken.own ++ taken.last)))) (marks_none w none)
         ∙ ap (λ (xs : List FrameValue). xs ++ (taken.crypto ++ (taken.own ++ taken.last))) is))
-    by_ack true e (AckPart.left_out ack says long is) = inr (record { ack = ack; says = says; long = omega (arith, long, ap length (marks_none w none)) })
+    by_ack true e (AckPart.left_out ack says long is) = inr (record { ack = ack; says = says; long = omega (arith, long, taken.owed owed, ap length (marks_none w none)) })
     by_ack false e (AckPart.none is) = absurd (cc (owed, owed_first w.acks e))
 
 -- the ACK, where there is one, has no more bytes than there is room for
@@ -242,7 +242,8 @@ taken_fits time bundled in_data w room fs taken r =
       taken.fits,
       marks_fit w,
       marks_few w,
-      ack_fits time (room - length (marks_part w)) w taken.acks (is_ack_first w.acks) taken.ack,
+      taken.few,
+      ack_fits time taken.most w taken.acks (is_ack_first w.acks) taken.ack,
       crypto_fits (without_all w (marks_part w ++ taken.acks)) behind taken.crypto taken.part,
       ack_fits time taken.left w taken.last (is_ack_last time bundled w.acks) taken.bundle,
     )

@@ -8,7 +8,7 @@ use Rattle.qc_frame.specs.FrameSpelling.{frames_spelling}
 use Rattle.qc_frame.specs.declared.frames.FrameOf.TheVariants.{HandshakeDone, Ping}
 use Rattle.qc_path.specs.Acks.{PendingValues}
 use Rattle.qc_send_stream.specs.Buffer.{Buffer, range_sealed}
-use Rattle.qc_state.specs.Acks.{AckPart, SaysAck, ack_sent, is_ack_first, is_ack_last}
+use Rattle.qc_state.specs.Acks.{AckPart, SaysAck, ack_sent, is_ack_first, is_ack_last, is_ack_owed}
 use Rattle.qc_state.specs.StreamFrames.{sealed_steps}
 use Rattle.qc_cids.specs.Steps as ids
 use Rattle.qc_cids.specs.declared.connection_ids.ConnectionIds.{ConnectionIds}
@@ -303,24 +303,27 @@ last_part time room rest left bundled true w v u acks crypto last same counts pa
 last_part time room rest left bundled false w v u acks crypto last same counts part bytes is e (AckPart.none none) = AckPart.none none
 
 -- the parts are the frames that may be taken
-pub taken_part : {S : Type 0} (time room count less rest more left len len' : ℕ) (bundled : Option ℕ) (first last : Bool) (w w1 w2 w3 w4 : SpaceWaiting) (in_data : Bool) (fs0 fs1 fs2 fs3 fs4 fs5 : List FrameValue) (l l' : Lower S) →
+pub taken_part : {S : Type 0} (time room count less most rest more left len len' : ℕ) (bundled : Option ℕ) (first last : Bool) (w w1 w2 w3 w4 : SpaceWaiting) (in_data : Bool) (fs0 fs1 fs2 fs3 fs4 fs5 : List FrameValue) (l l' : Lower S) →
     first ≡ is_ack_first w.acks → last ≡ is_ack_last time bundled w.acks → fs0 ≡ [] → fs1 ≡ fs0 ++ marks_part w → w1 ≡ without_all w (marks_part w) → count ≡ length (marks_part w) → less ≡ room - count →
-    TakesAck time first less w1 w2 fs1 fs2 len → rest ≡ less - len → TakesCrypto rest w2 w3 fs2 fs3 more → TakesOffered in_data more l l' fs3 fs4 left → TakesAck time last left w3 w4 fs4 fs5 len' →
+    most ≤ less → (is_ack_owed w.acks ≡ true → most ≡ less) → TakesAck time first most w1 w2 fs1 fs2 len → rest ≡ less - len → TakesCrypto rest w2 w3 fs2 fs3 more → TakesOffered in_data more l l' fs3 fs4 left → TakesAck time last left w3 w4 fs4 fs5 len' →
     TakenPart time bundled in_data w room fs5
-taken_part time room count less rest more left len len' bundled first last w w1 w2 w3 w4 in_data fs0 fs1 fs2 fs3 fs4 fs5 l l' is_first is_last is_fs0 is_fs1 is_w1 is_count is_less takes is_rest crypto streams bundle =
+taken_part time room count less most rest more left len len' bundled first last w w1 w2 w3 w4 in_data fs0 fs1 fs2 fs3 fs4 fs5 l l' is_first is_last is_fs0 is_fs1 is_w1 is_count is_less few owed takes is_rest crypto streams bundle =
     let same : w1.acks ≡ w.acks = ap (λ (x : SpaceWaiting). x.acks) is_w1 ∙ marks_acks w in
     let counts : w1.marks ≡ w.marks = ap (λ (x : SpaceWaiting). x.marks) is_w1 ∙ marks_counts w in
     let behind : less ≡ room - length (marks_part w) = is_less ∙ ap (λ (n : ℕ). room - n) is_count in
-    let front : AckPart time w less takes.acks (is_ack_first w.acks) = subst (λ (b : Bool). AckPart time w less takes.acks b) is_first (part_same time less w1 w takes.acks first same counts takes.part) in
+    let front : AckPart time w most takes.acks (is_ack_first w.acks) = subst (λ (b : Bool). AckPart time w most takes.acks b) is_first (part_same time most w1 w takes.acks first same counts takes.part) in
     let bytes : CryptoPart (without_all w1 takes.acks) rest crypto.frames = subst (λ (x : SpaceWaiting). CryptoPart x rest crypto.frames) takes.rest crypto.part in
     let size : rest ≡ room - length (marks_part w) - length (frames_spelling takes.acks) = is_rest ∙ ap (λ (n : ℕ). n - len) behind ∙ ap (λ (n : ℕ). room - length (marks_part w) - n) takes.size in
     let is_w3 : w3 ≡ without_all (without_all w1 takes.acks) crypto.frames = crypto.rest ∙ ap (λ (x : SpaceWaiting). without_all x crypto.frames) takes.rest in
     let here : without_all w1 takes.acks ≡ without_all w (marks_part w ++ takes.acks) = ap (λ (x : SpaceWaiting). without_all x takes.acks) is_w1 ∙ sym (append_left w (marks_part w) takes.acks) in
     let behind_all : AckPart time w left bundle.acks (is_ack_last time bundled w.acks) =
-    last_part time less rest left bundled (is_ack_last time bundled w.acks) w w1 w3 takes.acks crypto.frames bundle.acks (sym same) (sym counts) front bytes is_w3 refl (subst (λ (b : Bool). AckPart time w3 left bundle.acks b) is_last bundle.part) in
+    last_part time most rest left bundled (is_ack_last time bundled w.acks) w w1 w3 takes.acks crypto.frames bundle.acks (sym same) (sym counts) front bytes is_w3 refl (subst (λ (b : Bool). AckPart time w3 left bundle.acks b) is_last bundle.part) in
     record {
       acks = takes.acks;
-      ack = subst (λ (n : ℕ). AckPart time w n takes.acks (is_ack_first w.acks)) behind front;
+      most = most;
+      few = subst (λ (n : ℕ). most ≤ n) behind few;
+      owed = λ e. owed e ∙ behind;
+      ack = front;
       crypto = crypto.frames;
       part = subst (λ (n : ℕ). CryptoPart (without_all w (marks_part w ++ takes.acks)) n crypto.frames) size (subst (λ (x : SpaceWaiting). CryptoPart x rest crypto.frames) here bytes);
       own = streams.own;
@@ -336,14 +339,14 @@ taken_part time room count less rest more left len len' bundled first last w w1 
 pub part_steps : (time : ℕ) (bundled : Option ℕ) (in_data : Bool) (w : SpaceWaiting) (room : ℕ) (fs : List FrameValue) → (taken : TakenPart time bundled in_data w room fs) → sealed_steps fs ≡ sealed_steps taken.own
 part_steps time bundled in_data w room fs taken =
     ap sealed_steps taken.all
-    ∙ steps_by (marks_part w) taken.acks taken.crypto taken.own taken.last (marks_steps w) (sealed_ack time (room - length (marks_part w)) w taken.acks (is_ack_first w.acks) taken.ack)
+    ∙ steps_by (marks_part w) taken.acks taken.crypto taken.own taken.last (marks_steps w) (sealed_ack time taken.most w taken.acks (is_ack_first w.acks) taken.ack)
     (crypto_steps (without_all w (marks_part w ++ taken.acks)) _ taken.crypto taken.part) (sealed_ack time taken.left w taken.last (is_ack_last time bundled w.acks) taken.bundle)
 
 pub front_steps : (time : ℕ) (bundled : Option ℕ) (in_data : Bool) (w : SpaceWaiting) (room : ℕ) (fs : List FrameValue) → (taken : TakenPart time bundled in_data w room fs) →
     sealed_steps (marks_part w ++ (taken.acks ++ taken.crypto)) ≡ []
 front_steps time bundled in_data w room fs taken =
     sealed_append (marks_part w) (taken.acks ++ taken.crypto) ∙ ap (λ (xs : List Step). xs ++ sealed_steps (taken.acks ++ taken.crypto)) (marks_steps w) ∙ sealed_append taken.acks taken.crypto
-    ∙ ap (λ (xs : List Step). xs ++ sealed_steps taken.crypto) (sealed_ack time (room - length (marks_part w)) w taken.acks (is_ack_first w.acks) taken.ack)
+    ∙ ap (λ (xs : List Step). xs ++ sealed_steps taken.crypto) (sealed_ack time taken.most w taken.acks (is_ack_first w.acks) taken.ack)
     ∙ crypto_steps (without_all w (marks_part w ++ taken.acks)) _ taken.crypto taken.part
 
 -- the same of the datagrams' steps
@@ -351,7 +354,7 @@ pub front_datagrams : (time : ℕ) (bundled : Option ℕ) (in_data : Bool) (w : 
     sealed_datagrams (marks_part w ++ (taken.acks ++ taken.crypto)) ≡ []
 front_datagrams time bundled in_data w room fs taken =
     datagrams_append (marks_part w) (taken.acks ++ taken.crypto) ∙ ap (λ (xs : List datagrams.Step). xs ++ sealed_datagrams (taken.acks ++ taken.crypto)) (marks_datagrams w) ∙ datagrams_append taken.acks taken.crypto
-    ∙ ap (λ (xs : List datagrams.Step). xs ++ sealed_datagrams taken.crypto) (datagrams_ack time (room - length (marks_part w)) w taken.acks (is_ack_first w.acks) taken.ack)
+    ∙ ap (λ (xs : List datagrams.Step). xs ++ sealed_datagrams taken.crypto) (datagrams_ack time taken.most w taken.acks (is_ack_first w.acks) taken.ack)
     ∙ crypto_datagrams (without_all w (marks_part w ++ taken.acks)) _ taken.crypto taken.part
 
 -- and the offered frames among them hold the oldest datagrams, where all do
@@ -367,7 +370,7 @@ pub front_cids : (time : ℕ) (bundled : Option ℕ) (in_data : Bool) (w : Space
     sealed_cids (marks_part w ++ (taken.acks ++ taken.crypto)) ≡ []
 front_cids time bundled in_data w room fs taken =
     cids_append (marks_part w) (taken.acks ++ taken.crypto) ∙ ap (λ (xs : List ids.Step). xs ++ sealed_cids (taken.acks ++ taken.crypto)) (marks_cids w) ∙ cids_append taken.acks taken.crypto
-    ∙ ap (λ (xs : List ids.Step). xs ++ sealed_cids taken.crypto) (cids_ack time (room - length (marks_part w)) w taken.acks (is_ack_first w.acks) taken.ack)
+    ∙ ap (λ (xs : List ids.Step). xs ++ sealed_cids taken.crypto) (cids_ack time taken.most w taken.acks (is_ack_first w.acks) taken.ack)
     ∙ crypto_cids (without_all w (marks_part w ++ taken.acks)) _ taken.crypto taken.part
 
 -- and each of the offered frames among them that is theirs is the one that goes next, where all are

@@ -11,7 +11,7 @@ use Rattle.qc_state.specs.declared.waiting.TheConstants.{CRYPTO_HEAD}
 use Rattle.qc_state.specs.declared.waiting.SpaceWaiting.{SpaceWaiting}
 use Rattle.qc_datagrams.specs.Steps as datagrams
 use Rattle.qc_datagrams.specs.declared.datagrams.Datagrams.{Datagrams}
-use Rattle.qc_state.specs.Acks.{AckPart, is_ack_first, is_ack_last}
+use Rattle.qc_state.specs.Acks.{AckPart, is_ack_first, is_ack_last, is_ack_owed}
 use Rattle.qc_cids.specs.Steps as ids
 use Rattle.qc_cids.specs.declared.connection_ids.ConnectionIds.{ConnectionIds}
 use Rattle.qc_state.specs.declared.lower.Lower.{Lower}
@@ -79,10 +79,14 @@ AreDatagrams (frames.Datagram body ∷ fs) = Fits (frames.Datagram body) × AreD
 AreDatagrams (_ ∷ fs) = ⊥
 
 -- The frames that this end takes at a time for a packet with so much room: the HANDSHAKE_DONE, the PING, the ACK that is owed or
--- joins, the CRYPTO bytes that fit behind them, frames that the layers below offer, and an ACK that is only bundled.
+-- joins, the CRYPTO bytes that fit behind them, frames that the layers below offer, and an ACK that is only bundled. An ACK that is owed
+-- may have all the room behind the marks; one that only joins may be given less, so that it leaves room for what is owed.
 pub record TakenPart (time : ℕ) (bundled : Option ℕ) (in_data : Bool) (w : SpaceWaiting) (room : ℕ) (fs : List FrameValue) : Type 0 where
   pub acks : List FrameValue
-  pub ack : AckPart time w (room - length (marks_part w)) acks (is_ack_first w.acks)
+  pub most : ℕ
+  pub few : most ≤ room - length (marks_part w)
+  pub owed : is_ack_owed w.acks ≡ true → most ≡ room - length (marks_part w)
+  pub ack : AckPart time w most acks (is_ack_first w.acks)
   pub crypto : List FrameValue
   pub part : CryptoPart (without_all w (marks_part w ++ acks)) (room - length (marks_part w) - length (frames_spelling acks)) crypto
   pub own : List FrameValue

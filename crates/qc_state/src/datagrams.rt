@@ -75,6 +75,23 @@ pub fn first_fits(datagrams: &Datagrams, room: usize) -> bool
     }
 }
 
+/// How many bytes the frame of the oldest datagram that is to be sent has, where it fits into so much room, else 0.
+pub(crate) fn first_size(datagrams: &Datagrams, room: usize) -> usize
+    ensures { result ≤ room }
+{
+    match datagrams.outgoing.first_len() {
+        None => 0,
+        Some(len) => {
+            let size = head_size(len).saturating_add(len);
+            if size <= room {
+                size
+            } else {
+                0
+            }
+        }
+    }
+}
+
 /// The oldest datagram that is to be sent, where its frame fits into so much room: it is sealed then. None exactly where it doesn't, or none
 /// is.
 #[tactic(auto, using(crate::proofs::DatagramsTaken::drawn_first))]

@@ -1,6 +1,6 @@
 //! The frames that are taken for a packet of a space, and in which order.
 
-ghost use Rattle.std.specs.Prelude.{◌≡◌, ◌<◌, ◌^◌, ◌++◌, ◌∷◌, [], true, false, length, OnOk, IfOk};
+ghost use Rattle.std.specs.Prelude.{◌≡◌, ◌<◌, ◌≤◌, ◌^◌, ◌++◌, ◌∷◌, [], true, false, length, OnOk, IfOk};
 ghost use Rattle.qc_frame.specs.AckRanges.{ArePackets};
 ghost use Rattle.qc_frame.specs.Frame.{ack_map};
 ghost use Rattle.qc_frame.specs.FrameSpelling.{frames_spelling};
@@ -14,12 +14,13 @@ ghost use Rattle.qc_state.specs.StreamFrames.{sealed_steps};
 ghost use Rattle.qc_state.specs.Waiting.{without_all};
 ghost use Rattle.qc_streams.specs.Steps.{AllMay};
 
-use crate::datagrams::take_datagrams;
+use crate::datagrams::{first_size, take_datagrams};
 use crate::id_frames::take_ids;
 use crate::lower::Lower;
 use crate::stream_frames::{take_controls, take_parts};
 use crate::waiting::{CRYPTO_HEAD, SpaceWaiting};
 use qc_base::Instant;
+use qc_datagrams::Datagrams;
 use qc_frame::{Ack, EcnCounts, FrameList, FrameOf, OwnedAck, put_frame};
 use qc_path::PendingAcks;
 use std::alloc::{AllocError, Global};
@@ -144,6 +145,26 @@ fn take_ack(
     Ok(len)
 }
 
+/// How much room any one frame that waits takes at most, DATAGRAMs aside, whose bytes can be cut to what there is.
+const FRAME_ROOM: usize = 64;
+
+/// How much of the room an ACK in front of other frames may have: all of it where it is owed; else it leaves room for what is owed, be it
+/// any frame that waits, or the oldest datagram, where it fits.
+fn front_room(datagrams: &Datagrams, owed: bool, in_data: bool, room: usize) -> usize
+    ensures few { result ≤ room }
+    ensures owed { owed ≡ true → result ≡ room }
+{
+    if owed {
+        return room;
+    }
+    let datagram = if in_data {
+        first_size(datagrams, room)
+    } else {
+        0
+    };
+    room.saturating_sub(datagram.max(FRAME_ROOM))
+}
+
 /// Takes the HANDSHAKE_DONE and the PING that wait, and answers how many frames that are. Want of memory is the only refusal.
 #[tactic(auto, unfolding(crate::specs::Taking::marks_part, crate::specs::Taking::done_part, crate::specs::Taking::ping_part, crate::specs::Waiting::without_all, crate::specs::Waiting::without))]
 fn take_marks(space: &mut SpaceWaiting, frames: &mut FrameList) -> Result<usize, AllocError>
@@ -229,11 +250,13 @@ pub(crate) fn take<S>(
     ensures leads { IfOk result (λ frames. lower.new ≡ frames_sealed frames lower.old) }
 {
     let mut frames = FrameList::new(alloc);
+    let owed = is_ack_owed(&space.acks);
     let first = is_ack_first(&space.acks);
     let last = is_ack_last(&space.acks, now, bundled);
     let count = take_marks(space, &mut frames)?;
     let room = room.saturating_sub(count);
-    let len = take_ack(space, alloc, now, first, room, &mut frames)?;
+    let most = front_room(&lower.datagrams, owed, in_data, room);
+    let len = take_ack(space, alloc, now, first, most, &mut frames)?;
     let rest = take_crypto(space, alloc, room.saturating_sub(len), &mut frames)?;
     let left = take_offered(lower, alloc, in_data, rest, &mut frames)?;
     take_ack(space, alloc, now, last, left, &mut frames)?;

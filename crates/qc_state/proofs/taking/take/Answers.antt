@@ -1,4 +1,4 @@
-use Rattle.std.proofs.Common.{sym, subst, List}
+use Rattle.std.proofs.Common.{sym, subst, ◌∙◌, List}
 use Rattle.qc_streams.specs.Steps.{AllMay}
 use Rattle.qc_streams.specs.Waits.{Step}
 use Rattle.qc_state.proofs.Taken.{parts_leads, parts_next, parts_oldest, parts_steps, same_acks, same_numbers, without_parts, taken_part}
@@ -23,9 +23,9 @@ returns-clause-rest g c =
 -- they are what may be taken
 pub returns-clause-frames : goal.returns-clause-frames
 returns-clause-frames g c =
-    taken_part c.args.now c.args.room c.in_ok-count.count c.saturating_sub-room.result c.saturating_sub.result c.in_ok-rest.rest c.in_ok-left.left c.in_ok-len.len c.in_ok-take_ack.field-0 c.args.bundled c.is_ack_first-first.result
+    taken_part c.args.now c.args.room c.in_ok-count.count c.saturating_sub-room.result c.front_room-most.result c.saturating_sub.result c.in_ok-rest.rest c.in_ok-left.left c.in_ok-len.len c.in_ok-take_ack.field-0 c.args.bundled c.is_ack_first-first.result
     c.is_ack_last-last.result c.args.space.now _ _ _ _ c.args.in_data _ _ _ _ _ _ c.args.lower.now _ c.is_ack_first-first.ensures.value c.is_ack_last-last.ensures.value c.new-frames.ensures c.in_ok-count.ensures.frames c.in_ok-count.ensures.rest
-    c.in_ok-count.ensures.count c.saturating_sub-room.ensures c.in_ok-len.ensures c.saturating_sub.ensures c.in_ok-rest.ensures c.in_ok-left.ensures c.in_ok-take_ack.ensures
+    c.in_ok-count.ensures.count c.saturating_sub-room.ensures c.front_room-most.ensures.few (λ e. c.front_room-most.ensures.owed (c.is_ack_owed-owed.ensures ∙ e)) c.in_ok-len.ensures c.saturating_sub.ensures c.in_ok-rest.ensures c.in_ok-left.ensures c.in_ok-take_ack.ensures
 
 -- the steps of the streams are those of the frames of theirs among them
 pub returns-clause-may : goal.returns-clause-may
