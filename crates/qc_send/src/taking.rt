@@ -85,8 +85,8 @@ fn take_waiting<U: Suite>(
     let alone = core.owes_ack_alone(space);
     let frames = core.do_take(alloc, now, space, room)?;
     // A frame that waits is taken where there is room for 25 bytes, and more there is in each packet; one about connection ids where
-    // there is room for 54, and more there is in each 1-RTT packet; a DATAGRAM that waits where it fits alone, as it does: this refusal
-    // doesn't come.
+    // there is room for 54, and more there is in each 1-RTT packet; a DATAGRAM that waits where it fits alone, as it does; and an ACK that
+    // isn't owed leaves them that room: this refusal doesn't come.
     let makes = makes_packet(&frames, owes, first, alone);
     if !makes {
         return Err(AllocError);
