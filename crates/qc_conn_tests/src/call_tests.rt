@@ -196,27 +196,26 @@ fn takes(alloc: Global, client: &mut Connection<Toy>, bytes: &[u8]) -> bool {
     matches!(hear(alloc, client, 1, bytes), Some(Told::Done))
 }
 
-/// A client sends its hello, hears the server's reply and this end, and answers them: how many bytes its last datagram has.
+/// A client sends its hello, hears the server's reply and this end, and answers both in a datagram: how many bytes that has.
 pub(crate) fn establish(alloc: Global, client: &mut Connection<Toy>, end: &[u8]) -> Option<usize> {
     let _hello = sealed_len(alloc, client, 0)?;
     if !takes(alloc, client, &REPLY) || !takes(alloc, client, end) {
         return None;
     }
-    let _answer = sealed_len(alloc, client, 2)?;
-    sealed_len(alloc, client, 3)
+    sealed_len(alloc, client, 2)
 }
 
 /// An established client to which the server sent this end.
 pub(crate) fn established(alloc: Global, end: &[u8]) -> Option<Box<Connection<Toy>>> {
     let mut client = fresh_client(alloc)?;
-    let _last = establish(alloc, &mut client, end)?;
+    let _answer = establish(alloc, &mut client, end)?;
     Some(client)
 }
 
 /// An established client that takes so many bytes of all streams together.
 fn established_with(alloc: Global, window: u32) -> Option<Box<Connection<Toy>>> {
     let mut client = client_with_window(alloc, window)?;
-    let _last = establish(alloc, &mut client, &END_FOR_STREAMS)?;
+    let _answer = establish(alloc, &mut client, &END_FOR_STREAMS)?;
     Some(client)
 }
 

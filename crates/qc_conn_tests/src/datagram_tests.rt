@@ -16,7 +16,7 @@ const TEN_SEVENS: &str = "seal data 1 0 DATAGRAM/310a07070707070707070707\n";
 /// An established client whose peer takes frames of 100 bytes, and which keeps 100 bytes of datagrams that are to be sent.
 fn client(alloc: Global) -> Option<Box<Connection<Toy>>> {
     let mut client = client_with_buffers(alloc, Some(1000), 100)?;
-    let _last = establish(alloc, &mut client, &END_TAKES_100)?;
+    let _answer = establish(alloc, &mut client, &END_TAKES_100)?;
     Some(client)
 }
 

@@ -305,14 +305,6 @@ fn server_behind_hello(alloc: Global) -> Option<Box<Connection<Toy>>> {
     server_behind(alloc, hello.as_slice())
 }
 
-/// The first two datagrams of a server that is handed the client's hello.
-pub(crate) fn answers(alloc: Global) -> Option<(Vec<u8>, Vec<u8>)> {
-    let mut server = server_behind_hello(alloc)?;
-    let first = sealed(alloc, &mut server)?;
-    let second = sealed(alloc, &mut server)?;
-    Some((first, second))
-}
-
 /// The length of what a server answers to a datagram that it is handed whole, and whether it is this.
 fn is_answer_to_whole(alloc: Global, bytes: &[u8], answer: &[u8]) -> Option<(usize, bool)> {
     let whole = answer_to_whole(alloc, bytes)?;
