@@ -33,12 +33,7 @@ pub(crate) fn use_number<H: Drop, P: Drop>(
 
 /// A packet with these frames is sealed, in the last of the spaces with keys or not: it is told of what waits, and behind an ACK no other
 /// one is bundled before `next`.
-pub(crate) fn tell_waiting(
-    waiting: &mut Waiting,
-    last: bool,
-    frames: &FrameList,
-    next: Instant,
-)
+pub(crate) fn tell_waiting(waiting: &mut Waiting, last: bool, frames: &FrameList, next: Instant)
     ensures { waiting.new ≡ bundle_next (packet_told waiting.old last) frames.now next }
 {
     waiting.tell(last);

@@ -83,11 +83,7 @@ pub(crate) fn first_size(datagrams: &Datagrams, room: usize) -> usize
         None => 0,
         Some(len) => {
             let size = head_size(len).saturating_add(len);
-            if size <= room {
-                size
-            } else {
-                0
-            }
+            if size <= room { size } else { 0 }
         }
     }
 }
