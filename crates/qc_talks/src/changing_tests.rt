@@ -1,5 +1,6 @@
 //! Packets of which one bit was changed on their way.
 
+use crate::cuts::cut;
 use crate::ends::End;
 use crate::pair::{ONCE, Pair};
 use crate::setups::{client_address, server_address};
@@ -9,7 +10,7 @@ use std::process::Abort;
 use std::test::Fail;
 
 /// A packet of a handshake: how many whole flights come before it, the client's first, whether it is the second one of its
-/// flight, and how long its header is.
+/// datagram, and how long its header is.
 #[derive(Clone, Copy)]
 struct Place {
     flights: u32,
@@ -34,15 +35,24 @@ fn carry_flights(alloc: Global, pair: &mut Pair, flights: u32) -> Result<(), Fai
     Ok(())
 }
 
-/// What an end sends next comes to the other.
-fn next_comes(alloc: Global, from: &mut End, to: &mut End, nanos: u64) -> Result<(), Fail> {
-    match from.sends(alloc, nanos)? {
-        Some(datagram) => to.takes(alloc, nanos, from.address, None, datagram.as_slice()),
-        None => Ok(()),
+/// The bytes of a datagram's first packet, or of what is behind it, once the first one came by itself.
+fn bytes_in(
+    alloc: Global,
+    from: SocketAddr,
+    to: &mut End,
+    nanos: u64,
+    datagram: &[u8],
+    is_second: bool,
+) -> Result<Vec<u8>, Fail> {
+    let (first, second) = cut(datagram)?;
+    if is_second {
+        to.takes(alloc, nanos, from, None, first)?;
+        return Ok(Vec::from_slice(alloc, second)?);
     }
+    Ok(Vec::from_slice(alloc, first)?)
 }
 
-/// The bytes of an end's first datagram, or of its second one, once the first one came.
+/// The same of the datagram that an end sends next.
 fn bytes_sent(
     alloc: Global,
     from: &mut End,
@@ -50,11 +60,15 @@ fn bytes_sent(
     nanos: u64,
     is_second: bool,
 ) -> Result<Vec<u8>, Fail> {
-    if is_second {
-        next_comes(alloc, from, to, nanos)?;
-    }
     match from.sends(alloc, nanos)? {
-        Some(datagram) => Ok(datagram),
+        Some(datagram) => bytes_in(
+            alloc,
+            from.address,
+            to,
+            nanos,
+            datagram.as_slice(),
+            is_second,
+        ),
         None => Err(Fail::from("nothing is sent")),
     }
 }
@@ -198,8 +212,8 @@ fn two_stand_changes(rt: &impl Abort, alloc: Global, place: Place) -> Result<(),
     stands_changes_at(rt, alloc, &mut bothered, &mut left, place)
 }
 
-// The hello, the server's Initial packet and its Handshake packet, the client's Handshake packet, the HANDSHAKE_DONE and its ACK, with
-// the lengths of their headers: in a long one the first byte, the version, two ids of 8 bytes with their lengths, the length of 2 bytes
+// The hello, the server's Initial packet and its Handshake packet, the client's Handshake packet, the HANDSHAKE_DONE and its ACK, each cut
+// out of its datagram, with the lengths of their headers: in a long one the first byte, the version, two ids of 8 bytes with their lengths, the length of 2 bytes
 // and the number of 1, and in an Initial packet the length of the token; in a short one the first byte, the id and the number. The
 // checksum of the toy's keys weighs each byte with its place, so that it tells any change of the lowest bit of one.
 #[test]

@@ -9,6 +9,8 @@ mod closing_tests;
 #[cfg(test)]
 mod credit_tests;
 #[cfg(test)]
+mod cuts;
+#[cfg(test)]
 mod ends;
 #[cfg(test)]
 mod first_tests;

@@ -1,6 +1,7 @@
 //! Datagrams that come twice, and datagrams that come in another order than they were sent in.
 
 use crate::closing_tests::tells;
+use crate::cuts::packets_of;
 use crate::ends::End;
 use crate::pair::{ONCE, Pair, Way, deliver};
 use std::alloc::Global;
@@ -55,13 +56,13 @@ fn are_alike(rt: &impl Abort, alloc: Global, one: &End, other: &End) -> Result<(
 /// Checks what becomes of each packet of a handshake that comes twice.
 fn sees_copies(rt: &impl Abort, alloc: Global, pair: &mut Pair) -> Result<(), Fail> {
     pair.carry(alloc, TWICE)?;
-    let of_client = "piece initial 0 Admitted\npiece initial 0 Seen\n\
-        piece handshake 0 Admitted\npiece handshake 0 Seen\n\
+    let of_client = "piece initial 0 Admitted\npiece handshake 0 Admitted\n\
+        piece initial 0 Seen\npiece handshake 0 Seen\n\
         piece data 1 Admitted\npiece data 1 Seen\n";
     tells(rt, alloc, &pair.client, "piece ", of_client)?;
     let of_server = "piece initial 0 Admitted\npiece initial 0 Seen\n\
-        piece initial 1 Admitted\npiece initial 1 Seen\n\
-        piece handshake 0 Admitted\npiece handshake - Ignored\n\
+        piece initial 1 Admitted\npiece handshake 0 Admitted\n\
+        piece initial - Ignored\npiece handshake - Ignored\n\
         piece data 1 Admitted\npiece data 1 Seen\n";
     tells(rt, alloc, &pair.server, "piece ", of_server)
 }
@@ -84,9 +85,9 @@ fn talk_alike(
     are_alike(rt, alloc, &once.server, &twice.server)
 }
 
-// A packet whose number came before is dropped (RFC 9000, section 12.3): each second copy is seen, but that of the client's Handshake
-// packet, whose keys the server has dropped with the end of the handshake (RFC 9001, section 4.9.2). The server closes, and the client
-// drains.
+// A packet whose number came before is dropped (RFC 9000, section 12.3): each second copy is seen, but those in the client's second
+// datagram, an ACK and its Handshake packet: with the first copy of this the server has dropped the Initial keys, and, at the end of the
+// handshake, its keys too (RFC 9001, sections 4.9.1 and 4.9.2). The server closes, and the client drains.
 #[test]
 fn twice_is_as_once(rt: HostRuntime) -> Result<(), Fail> {
     let alloc = rt.alloc();
@@ -109,7 +110,8 @@ fn deliver_backwards(
     Ok(())
 }
 
-/// A flight of an end comes to the other so many times, each time the last datagram first. Says how many datagrams it has.
+/// The packets of a flight of an end come to the other so many times, each in a datagram of its own, and each time the last one first. Says
+/// how many there are.
 fn carry_backwards(
     alloc: Global,
     from: &mut End,
@@ -118,10 +120,11 @@ fn carry_backwards(
     times: u32,
 ) -> Result<usize, Fail> {
     let flight = from.flight(alloc, nanos)?;
+    let packets = packets_of(alloc, flight.as_slice())?;
     for _ in 0..times {
-        deliver_backwards(alloc, from, to, nanos, flight.as_slice())?;
+        deliver_backwards(alloc, from, to, nanos, packets.as_slice())?;
     }
-    Ok(flight.len())
+    Ok(packets.len())
 }
 
 /// Checks a handshake in which the client's second flight comes backwards, against the usual one.
@@ -147,8 +150,8 @@ fn client_goes_backwards(
     are_alike(rt, alloc, &usual.client, &pair.client)
 }
 
-// The client's second flight is the ACK of the server's Initial packet, and a Handshake packet with the client's end. Comes the
-// Handshake packet first, then the server drops its Initial keys with it (RFC 9001, section 4.9.1), and both ends are established
+// The client's second flight is the ACK of the server's Initial packet, and a Handshake packet with the client's end, in one datagram. Comes the
+// Handshake packet first, cut out of it, then the server drops its Initial keys with it (RFC 9001, section 4.9.1), and both ends are established
 // as they are in the order of sending.
 #[test]
 fn a_flight_of_the_client_comes_backwards(rt: HostRuntime) -> Result<(), Fail> {
@@ -178,8 +181,8 @@ fn server_goes_backwards(
     are_alike(rt, alloc, &usual.server, &pair.server)
 }
 
-// The server's first flight is an Initial and a Handshake packet. The Handshake packet can't be opened before the Initial packet
-// came, and changes nothing; when it comes again, the client goes on.
+// The server's first flight is an Initial and a Handshake packet in one datagram. Cut out of it, the Handshake packet can't be opened before
+// the Initial packet came, and changes nothing; when it comes again, the client goes on.
 #[test]
 fn a_flight_of_the_server_comes_backwards(rt: HostRuntime) -> Result<(), Fail> {
     let alloc = rt.alloc();
