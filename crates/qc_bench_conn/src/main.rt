@@ -3,7 +3,7 @@
 //! with its ACKs. It is there to be counted by an instruction counter: the difference of two runs is the cost of what the one did
 //! more. Arguments are words in fours, `bytes STREAMS TURNS SIZE`; each four write a line.
 //!
-//! What the stored run writes is worked out by hand. A handshake takes 4 datagrams of the client's and 3 of the server's. A packet of
+//! What the stored run writes is worked out by hand. A handshake takes 3 datagrams of the client's and 2 of the server's. A packet of
 //! 1,200 bytes has a header of 10 and a tag of 16, and room for 1,174 bytes of frames, of which a STREAM frame takes 19 and those of its
 //! stream. So 1,000 bytes on one stream go in one packet a turn, 20 in all; the server acknowledges the first at once, since it misses
 //! number 0, and then each second one: 10 times. Of 100 bytes on each of 10 streams 9 frames go in one packet, and with them 84 bytes of
