@@ -4,7 +4,7 @@ use Rattle.qc_assembler.specs.Assembly.{Assembly, among}
 use Rattle.qc_assembler.specs.Parts.{flat, IsKept}
 
 -- n offsets in a row, the first at s
-unfoldable pub row : ℕ → ℕ → List ℕ
+unfoldable pub row : (start count : ℕ) → List ℕ
 row s zero = []
 row s (suc n) = s ∷ row (suc s) n
 

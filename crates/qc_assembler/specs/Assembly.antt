@@ -8,7 +8,7 @@ run o [] = []
 run o (b ∷ bs) = (o, b) ∷ run (suc o) bs
 
 -- the byte b comes at o; one that came there before stays
-unfoldable pub put : ℕ → ℕ → List (ℕ × ℕ) → List (ℕ × ℕ)
+unfoldable pub put : (offset byte : ℕ) → List (ℕ × ℕ) → List (ℕ × ℕ)
 put o b [] = (o, b) ∷ []
 put o b (x ∷ xs) = if nat_lt o x.0 then (o, b) ∷ x ∷ xs else if o == x.0 then x ∷ xs else x ∷ put o b xs
 
@@ -50,7 +50,7 @@ unfoldable pub was_read : ℕ → Assembly → Bool
 was_read o a = nat_lt o a.read || among o a.ahead
 
 -- the byte b comes at o: one that was read is passed over, and one that came there before stays
-unfoldable pub byte_came : ℕ → ℕ → Assembly → Assembly
+unfoldable pub byte_came : (offset byte : ℕ) → Assembly → Assembly
 byte_came o b a = if was_read o a then a else record a { came = put o b a.came }
 
 -- bytes come one after the other, the first at o
@@ -126,12 +126,12 @@ note o [] = o ∷ []
 note o (x ∷ xs) = if nat_lt o x then o ∷ x ∷ xs else if o == x then x ∷ xs else x ∷ note o xs
 
 -- n offsets from o on are read out of order
-unfoldable pub noted : ℕ → ℕ → List ℕ → List ℕ
+unfoldable pub noted : (offset count : ℕ) → List ℕ → List ℕ
 noted o zero ahead = ahead
 noted o (suc n) ahead = noted (suc o) n (note o ahead)
 
 -- the first n bytes, whose offsets begin at o, are read out of order
-unfoldable pub taken : ℕ → ℕ → Assembly → Assembly
+unfoldable pub taken : (offset count : ℕ) → Assembly → Assembly
 taken o n a = record a { ahead = noted o n a.ahead; came = drop n a.came }
 
 -- what waits is let go

@@ -35,8 +35,8 @@ abbrev pub number_placed : ℕ → List ℕ → List ℕ
 number_placed n [] = n ∷ []
 number_placed n (k ∷ ks) = if nat_lt n k then n ∷ k ∷ ks else k ∷ number_placed n ks
 
--- so do numbers, one after the other
-abbrev pub numbers_placed : List ℕ → List ℕ → List ℕ
+-- numbers take their places among others, one after the other
+abbrev pub numbers_placed : (new placed : List ℕ) → List ℕ
 numbers_placed [] ks = ks
 numbers_placed (n ∷ ns) ks = numbers_placed ns (number_placed n ks)
 

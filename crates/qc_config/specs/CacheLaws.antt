@@ -4,8 +4,8 @@ use Rattle.qc_config.specs.TokenCache.{CacheValues, cache_after_take, cache_inse
 
 -- a token that came from a server, or a server that one is taken of
 pub data CacheCall : Type 0 where
-  Put : List ℕ → List ℕ → CacheCall
-  Take : List ℕ → CacheCall
+  Put : (name token : List ℕ) → CacheCall
+  Take : (name : List ℕ) → CacheCall
 
 -- what a call leaves
 abbrev pub cache_after : CacheCall → CacheValues → CacheValues

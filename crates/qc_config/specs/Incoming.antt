@@ -34,7 +34,7 @@ pub record Taker : Type 0 where
   pub now : ℕ
   pub retry_lifetime : ℕ
   pub lifetime : ℕ
-  pub takes : ℕ → ℕ → ℕ → Result (Unit {0}) TokenReuseError
+  pub takes : (nonce issued lifetime : ℕ) → Result (Unit {0}) TokenReuseError
 
 -- what a Retry token brings: from another address, or expired, it isn't valid
 unfoldable pub retry_row : (SocketAddr → SocketAddr → Bool) → Taker → List ℕ → (remote address : SocketAddr) → List ℕ → ℕ → Result IncomingToken HeaderError

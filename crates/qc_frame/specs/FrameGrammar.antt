@@ -215,7 +215,8 @@ pub data Fields (f : FrameValue) (a z : List ℕ) : ℕ → Type 0 where
   is_datagram : Datagram false f a z → Fields f a z 0x30
   is_datagram_with_length : Datagram true f a z → Fields f a z 0x31
 
--- the bytes begin with the frame f, whose type stands before its other fields, and go on with z
+-- Frames are read in any form and written in their shortest (RFC 9000, section 19). The bytes begin with the frame f, whose
+-- type stands before its other fields, and go on with z
 abbrev pub FrameAt : Spelling TypedValue
 FrameAt f a z = (b : List ℕ) × Varint f.ty a b × Fields f.frame b z f.ty
 

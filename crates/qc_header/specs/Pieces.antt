@@ -17,6 +17,7 @@ pieces_within (suc most) local_cid_len versions grease_quic_bit [] = []
 pieces_within (suc most) local_cid_len versions grease_quic_bit (b ∷ bytes) =
     pieces_and (piece_at local_cid_len versions grease_quic_bit (b ∷ bytes)) (pieces_within most local_cid_len versions grease_quic_bit)
 
--- the packets of a datagram, which has no more of them than bytes, and the fault that ends it, if one does
+-- A datagram is cut into its packets up to the first bytes that begin with none (RFC 9000, section 12.2). The packets of a
+-- datagram, which has no more of them than bytes, and the fault that ends it, if one does
 unfoldable pub pieces_of : ℕ → List ℕ → Bool → List ℕ → List DatagramItem
 pieces_of local_cid_len versions grease_quic_bit bytes = pieces_within (length bytes) local_cid_len versions grease_quic_bit bytes

@@ -33,11 +33,11 @@ with_flip true header = begun_by (first_byte header - 0x40) header
 
 -- the header, its fixed bit flipped or not, and the sealed payload, with the mask laid over the first byte and
 -- the packet number
-unfoldable pub sealed_packet : (List ℕ → List ℕ) → (ℕ → List ℕ → List ℕ → List ℕ) → Bool → Header → ℕ → List ℕ → List ℕ
+unfoldable pub sealed_packet : (mask : List ℕ → List ℕ) → (seal : ℕ → List ℕ → List ℕ → List ℕ) → (flip : Bool) → Header → (number : ℕ) → (plain : List ℕ) → List ℕ
 sealed_packet mask seal flip h number plain =
     masked mask (length (header_bytes h plain) - len_of (header_number h))
     (with_flip flip (header_bytes h plain) ++ seal number (with_flip flip (header_bytes h plain)) plain)
 
 -- the same with its fixed bit as it is written
-abbrev pub packet_spelling : (List ℕ → List ℕ) → (ℕ → List ℕ → List ℕ → List ℕ) → Header → ℕ → List ℕ → List ℕ
+abbrev pub packet_spelling : (mask : List ℕ → List ℕ) → (seal : ℕ → List ℕ → List ℕ → List ℕ) → Header → (number : ℕ) → (plain : List ℕ) → List ℕ
 packet_spelling mask seal h number plain = sealed_packet mask seal false h number plain

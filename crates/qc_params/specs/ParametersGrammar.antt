@@ -122,7 +122,8 @@ pub record AreParameters (es : List Entry) (p : TransportParameters) : Type 0 wh
   pub max_datagram_frame_size : Under 0x20 (Given Number) None es p.max_datagram_frame_size
   pub grease_quic_bit : Under 0x2ab2 Flag false es p.grease_quic_bit
 
--- the bytes are entries that say these parameters
+-- Transport parameters are within their bounds, each once (RFC 9000, section 18.2). The bytes are entries that say these
+-- parameters
 pub record Parameters (p : TransportParameters) (bytes : List ℕ) : Type 0 where
   pub entries : List Entry
   pub spelled : Entries entries bytes

@@ -54,7 +54,8 @@ counted_in p m =
     if p.ack_eliciting then record m { eliciting = plus m.eliciting 1; greatest_eliciting = greatest_with m.greatest_eliciting p.number }
     else record m { silent = plus m.silent 1 }
 
--- a packet in Data that elicits an ACK and leaves none owed sets the timer, where it wasn't set since the last ACK
+-- Any other ACK is held back for 25 ms (RFC 9000, section 13.2.1). A packet in Data that elicits an ACK and leaves none
+-- owed sets the timer, where it wasn't set since the last ACK
 unfoldable pub sets_delay : Bool → Window → Arrival → AckMarks → Bool
 sets_delay in_data seen p m = in_data && p.ack_eliciting && not (owed_with in_data seen p m) && not m.delay_set
 
@@ -83,7 +84,8 @@ marks_expired empty m = record m { owed = m.owed || not empty }
 abbrev pub is_clear : PendingValues → Bool
 is_clear p = length p.ranges == 0
 
--- an ACK is owed: one that would acknowledge nothing isn't
+-- An ACK is owed at once in Initial and Handshake, by the second 1-RTT packet, out of order, and by a mark of congestion
+-- (RFC 9000, sections 13.2.1 and 13.2.2). An ACK is owed: one that would acknowledge nothing isn't
 unfoldable pub owes_ack : PendingValues → Bool
 owes_ack p = p.marks.owed && not (is_clear p)
 

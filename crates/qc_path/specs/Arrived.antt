@@ -24,7 +24,8 @@ exceeds (Some greatest) n = nat_lt greatest n
 unfoldable pub has_come : Window → ℕ → Bool
 has_come w n = slice_index w.slots (n % remembered) == n
 
--- greater than all that came, or not come and at most 128 below the greatest
+-- A number that came counts once; the window remembers 128 below the greatest (RFC 9000, section 12.3). Greater than all
+-- that came, or not come and at most 128 below the greatest
 unfoldable pub is_new : Window → ℕ → Bool
 is_new w n = exceeds w.greatest n || (exceeds w.greatest (n + remembered) && not (has_come w n))
 

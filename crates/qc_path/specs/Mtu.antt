@@ -43,8 +43,9 @@ goes_on s q = nat_le (max s.minimum_change 1) (q.upper - q.lower)
 abbrev pub middle : Search → ℕ
 middle q = max (q.lower + (q.upper - q.lower) / 2) (min (q.lower + 1) q.upper)
 
--- the search of a moment: one that goes on, or one that begins. One that begins where its ends are close ends as it begins:
--- it probes nothing, and neither would the next one, which begins between the same ends
+-- A larger datagram is searched; bursts of losses show a black hole (RFC 8899; RFC 9000, section 14.3). The search of a
+-- moment: one that goes on, or one that begins. One that begins where its ends are close ends as it begins: it probes
+-- nothing, and neither would the next one, which begins between the same ends
 abbrev pub search_at : ℕ → SearchSettings → Mtu → Phase → Option Search
 search_at now s m Unbegun = Some (begun s m)
 search_at now s m (Searching q) = Some q

@@ -32,7 +32,7 @@ grown_slowly bytes r =
     if nat_le r.window counted then record r { window = plus r.window r.mtu; bytes_acked = counted - r.window }
     else record r { bytes_acked = counted }
 
--- an acknowledgement of a packet
+-- NewReno: slow start, congestion avoidance, one event a round trip (RFC 9002, section 7.3). An acknowledgement of a packet
 unfoldable pub reno_acked : (sent bytes : ℕ) → Bool → Reno → Reno
 reno_acked sent bytes app_limited r =
     if app_limited || not (is_after r.recovery_start sent) then r

@@ -38,7 +38,7 @@ packet_paced now rate size bucket = record (refilled now rate bucket) { tokens =
 unfoldable pub wait_for : ℕ → PathRate → ℕ → ℕ
 wait_for now rate missing = plus now (div_ceil (times (times rate.rtt missing) 4) (times rate.window 5))
 
--- how long these bytes have to wait, if they have to
+-- Packets are spread over the round trip (RFC 9002, section 7.7). How long these bytes have to wait, if they have to
 unfoldable pub pacing_delay : PathRate → ℕ → Bucket → Option ℕ
 pacing_delay rate bytes bucket =
     if is_still rate then None

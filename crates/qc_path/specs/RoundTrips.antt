@@ -44,7 +44,8 @@ abbrev pub var_with : Option ℕ → (var time sample : ℕ) → ℕ
 var_with None var time sample = sample / 2
 var_with (Some smoothed) var time sample = varied var smoothed time
 
--- a sample is taken, of an ACK that was held back for a time
+-- Round trips are smoothed by an eighth, their variation by a quarter (RFC 9002, section 5.3). A sample is taken, of an ACK
+-- that was held back for a time
 unfoldable pub sampled : (delay sample : ℕ) → Rtt → Rtt
 sampled delay sample rtt =
     let time : ℕ = adjusted (least_with rtt.smoothed rtt.least sample) delay sample in

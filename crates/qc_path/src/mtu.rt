@@ -173,6 +173,13 @@ impl MtuDiscovery {
         self.current
     }
 
+    /// The size that every path takes, in bytes of UDP payload.
+    pub fn least_mtu(&self) -> u16
+        ensures { result ≡ self.now.least }
+    {
+        self.least
+    }
+
     #[tactic(auto, unfolding(crate::specs::Mtu::begun))]
     fn begin(&self, settings: &SearchSettings) -> Search
         ensures { result ≡ begun settings.now self.now }

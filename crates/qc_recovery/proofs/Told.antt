@@ -11,8 +11,8 @@ use Rattle.qc_path.specs.Arrived.{exceeds}
 use Rattle.qc_path.specs.Mtu.{Mtu}
 use Rattle.qc_recovery.specs.Acking.{ack_told, acked_of, acks_told, bursts_from, bursts_told, ecn_shown, ecn_told, end_told, event_told, held, hole_told, is_persistent_in, limit_with, losses_told, lost_of, probe_told, sample_taken, size_told, space_acked, space_less}
 use Rattle.qc_recovery.specs.Losses.{burst_ended, burst_with, is_in_burst, is_probe_in, loss_delay, no_report, report_from, report_of, report_with}
-use Rattle.qc_recovery.specs.Steps.{SpaceAfter, losses_found, marks_read, path_acked, path_lost, sampled_if, space_after, space_timed}
-use Rattle.qc_recovery.specs.Told.{CongestionEvent, acks_written, is_no_probe, last_sent, loss_events, losses_of_ack, mark_events, marks_told, recorder}
+use Rattle.qc_recovery.specs.Steps.{SpaceAfter, ack_after, loss_first, losses_found, marks_read, occasion, path_acked, path_lost, probe_fired, probe_line, sampled_if, space_after, space_of, space_timed, timeout_after, timeout_by}
+use Rattle.qc_recovery.specs.Told.{CongestionEvent, acks_written, events_acked, events_fired, is_no_probe, last_sent, loss_events, losses_of_ack, mark_events, marks_told, recorder}
 use Rattle.qc_recovery.specs.declared.burst.Burst.{Burst}
 use Rattle.qc_recovery.specs.declared.calls.AckValues.{AckValues}
 use Rattle.qc_recovery.specs.declared.calls.Around.{Around}
@@ -22,6 +22,7 @@ use Rattle.qc_recovery.specs.declared.ecn.EcnVerdict.TheVariants as ecn
 use Rattle.qc_recovery.specs.declared.limits.Limits.{Limits}
 use Rattle.qc_recovery.specs.declared.losses.LossReport.{LossReport}
 use Rattle.qc_recovery.specs.declared.path.PathData.{PathData}
+use Rattle.qc_recovery.specs.declared.recovery.Recovery.{Recovery}
 use Rattle.qc_recovery.specs.declared.space.SpaceRecovery.{SpaceRecovery}
 use Rattle.qc_recovery.proofs.Bursts.{filter_leaves, filter_takes}
 
@@ -208,3 +209,24 @@ pub nothing_tells : (l : Limits) (o : Occasion) (a : AckValues) (ranges : List N
     → (space_after recorder l o a ranges around s p).path.congestion ≡ p.congestion ++ marks_told o a (exceeds s.greatest a.largest) 0 (space_acked a.largest ranges s) p
 unfolding space_after marks_read marks_told
 nothing_tells l o a ranges around s p none = rw (if_true (length (acked_of ranges s) == 0) _ _ none) (marks_written o.time _ _ p)
+
+-- ---- the same of the calls, over all spaces
+
+probe_tells : (due : Option (ℕ × SpaceId)) (r : Recovery) (p : PathData Log) → (probe_fired due r p).path.congestion ≡ p.congestion ++ events_fired p.mtud (probe_fired due r p).fired
+unfolding events_fired
+probe_tells None r p = sym (append-nil p.congestion)
+probe_tells (Some due) r p = sym (append-nil p.congestion)
+
+timeout_tells_by : (now : ℕ) (around : Around) (loss : Option (ℕ × SpaceId)) (r : Recovery) (p : PathData Log) → (timeout_by recorder now around loss r p).path.congestion ≡ p.congestion ++ events_fired p.mtud (timeout_by recorder now around loss r p).fired
+unfolding events_fired
+timeout_tells_by now around None r p = probe_tells (probe_line now around p.rtt r) r p
+timeout_tells_by now around (Some loss) r p = timer_tells r.limits now loss.1 (space_of loss.1 r) p
+
+pub timeout_tells : (now : ℕ) (around : Around) (r : Recovery) (p : PathData Log) → (timeout_after recorder now around r p).path.congestion ≡ p.congestion ++ events_fired p.mtud (timeout_after recorder now around r p).fired
+unfolding timeout_after
+timeout_tells now around r p = timeout_tells_by now around (loss_first r) r p
+
+pub call_tells : (now : ℕ) (id : SpaceId) (next began : ℕ) (a : AckValues) (ranges : List NumberRange) (around : Around) (r : Recovery) (p : PathData Log) → (length (acked_of ranges (space_of id r)) == 0) ≡ false
+    → (ack_after recorder now id next began a ranges around r p).path.congestion ≡ p.congestion ++ events_acked r.limits (occasion now id next began r) a ranges around (ack_after recorder now id next began a ranges around r p).lost (space_of id r) p
+unfolding ack_after events_acked
+call_tells now id next began a ranges around r p some = ack_tells r.limits (occasion now id next began r) a ranges around (space_of id r) p some

@@ -47,7 +47,7 @@ limit_with (Some greatest) largest = max greatest largest
 unfoldable pub acked_of : List NumberRange → SpaceRecovery → List Entry
 acked_of ranges s = those (is_acked ranges) s.flight
 
--- the space that an ACK leaves, before loss is looked for
+-- Each packet is acknowledged or lost once (RFC 9002, section 2). The space that an ACK leaves, before loss is looked for
 unfoldable pub space_acked : ℕ → List NumberRange → SpaceRecovery → SpaceRecovery
 space_acked largest ranges s = raised largest (acked_of ranges s) (record s { flight = others (is_acked ranges) s.flight })
 

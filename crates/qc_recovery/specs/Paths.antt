@@ -1,5 +1,5 @@
 -- How a path begins, moves, and begins anew
-use Rattle.std.specs.Prelude.{ℕ, Bool, true, if◌then◌else◌, Option, Some, None}
+use Rattle.std.specs.Prelude.{ℕ, Bool, true, if◌then◌else◌, Option, Some, None, min}
 use Rattle.qc_path.specs.Mtu.{Mtu, first_mtu}
 use Rattle.qc_path.specs.Pacing.{full_bucket}
 use Rattle.qc_path.specs.RoundTrips.{assumed_rtt, estimate}
@@ -8,10 +8,10 @@ use Rattle.qc_path.specs.declared.mtu.SearchSettings.{SearchSettings}
 use Rattle.qc_recovery.specs.TransportValues.{MtuDiscoveryValues, TransportValues}
 use Rattle.qc_recovery.specs.declared.path.PathData.{PathData}
 
--- how a larger datagram is searched, if at all
+-- how a larger datagram is searched, if at all: up to 16,383 bytes, so that each length in a packet has two bytes at most
 abbrev pub searched : Option MtuDiscoveryValues → Option SearchSettings
 searched None = None
-searched (Some c) = Some (record { interval = c.interval; upper_bound = c.upper_bound; black_hole_cooldown = c.black_hole_cooldown; minimum_change = c.minimum_change })
+searched (Some c) = Some (record { interval = c.interval; upper_bound = min c.upper_bound 16383; black_hole_cooldown = c.black_hole_cooldown; minimum_change = c.minimum_change })
 
 -- no larger datagram is searched where that isn't allowed
 abbrev pub searched_if : Bool → TransportValues → Option SearchSettings

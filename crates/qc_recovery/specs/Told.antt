@@ -1,5 +1,5 @@
 -- What a congestion controller is told of packets that are lost (RFC 9002, sections 7.3.2 and 7.6)
-use Rattle.std.specs.Prelude.{ℕ, Bool, false, not, if◌then◌else◌, List, [], ◌∷◌, ◌++◌, sum_by, unwrap_or}
+use Rattle.std.specs.Prelude.{ℕ, Bool, false, not, if◌then◌else◌, List, [], ◌∷◌, ◌++◌, length, sum_by, unwrap_or}
 use Rattle.std.specs.List.{list_any}
 use Rattle.qc_base.specs.declared.range_set.NumberRange.{NumberRange}
 use Rattle.qc_base.specs.declared.side.SpaceId.{SpaceId}
@@ -9,9 +9,11 @@ use Rattle.qc_path.specs.Mtu.{Mtu}
 use Rattle.qc_path.specs.declared.controller.Controller.{Ghosts as Control}
 use Rattle.qc_recovery.specs.Acking.{acked_of, ecn_shown, held, is_persistent_in, space_acked}
 use Rattle.qc_recovery.specs.Losses.{is_probe_in}
-use Rattle.qc_recovery.specs.Steps.{path_acked}
+use Rattle.qc_recovery.specs.Steps.{path_acked, path_lost}
 use Rattle.qc_recovery.specs.declared.calls.AckValues.{AckValues}
 use Rattle.qc_recovery.specs.declared.calls.Around.{Around}
+use Rattle.qc_recovery.specs.declared.calls.Fired.{Fired}
+use Rattle.qc_recovery.specs.declared.calls.Fired.TheVariants as fired
 use Rattle.qc_recovery.specs.declared.calls.Occasion.{Occasion}
 use Rattle.qc_recovery.specs.declared.ecn.EcnVerdict.{EcnVerdict}
 use Rattle.qc_recovery.specs.declared.ecn.EcnVerdict.TheVariants as ecn
@@ -68,3 +70,16 @@ acks_written o a ranges around s p = path_acked recorder o a around (exceeds s.g
 -- the event of the packets that an ACK shows to be lost, the MTU probe aside
 unfoldable pub losses_of_ack : Limits → Occasion → Around → List Entry → PathData (List CongestionEvent) → List CongestionEvent
 losses_of_ack l o around lost p = loss_events (is_persistent_in l o.space around.max_ack_delay lost p) (those (is_no_probe o.space p.mtud) lost)
+
+-- the events of the packets that the loss timer shows to be lost as it fires, the MTU probe aside; a probe timeout is none (RFC
+-- 9002, section 6.2.1)
+unfoldable pub events_fired : Mtu → Fired → List CongestionEvent
+events_fired m (fired.Lost id lost) = loss_events false (those (is_no_probe id m) lost)
+events_fired m (fired.Probe id count) = []
+events_fired m fired.Nothing = []
+
+-- the events of an ACK that newly acknowledges packets: that of those which it shows to be lost, and then that of its marks
+unfoldable pub events_acked : Limits → Occasion → AckValues → List NumberRange → Around → List Entry → SpaceRecovery → PathData (List CongestionEvent) → List CongestionEvent
+events_acked l o a ranges around lost s p =
+    let q : PathData (List CongestionEvent) = acks_written o a ranges around s p in
+    losses_of_ack l o around lost q ++ marks_told o a (exceeds s.greatest a.largest) (length (acked_of ranges s)) (space_acked a.largest ranges s) (path_lost recorder l o around lost q)

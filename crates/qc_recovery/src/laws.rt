@@ -17,9 +17,9 @@ ghost use Rattle.qc_recovery.specs.Frames.{ranges_up_of, values_of};
 ghost use Rattle.qc_recovery.specs.Runs.{AreSettledOnce, Call, all_fates, calls_after, no_fates};
 ghost use Rattle.qc_recovery.specs.Settlement.{all_of};
 ghost use Rattle.qc_recovery.specs.Stands.{all_asked, stands};
-ghost use Rattle.qc_recovery.specs.Told.{CongestionEvent, acks_written, is_no_probe, loss_events, losses_of_ack, marks_told, recorder};
+ghost use Rattle.qc_recovery.specs.Told.{CongestionEvent, acks_written, events_acked, events_fired, is_no_probe, loss_events, losses_of_ack, marks_told, recorder};
 ghost use Rattle.qc_recovery.specs.TransportValues.{TransportValues};
-ghost use Rattle.qc_recovery.specs.Steps.{ack_after, armed_at, marks_read, path_lost, space_after, space_timed, space_with};
+ghost use Rattle.qc_recovery.specs.Steps.{ack_after, armed_at, marks_read, occasion, path_lost, space_after, space_of, space_timed, space_with, timeout_after};
 ghost use Rattle.qc_recovery.specs.declared.calls.AckValues.{AckValues};
 ghost use Rattle.qc_recovery.specs.declared.calls.Around.{Around};
 ghost use Rattle.qc_recovery.specs.declared.calls.Occasion.{Occasion};
@@ -70,10 +70,14 @@ pub fn acked_numbers_are_acknowledged<C: Controller>()
 /// A law, which runs no code. A controller is told of each loss that counts, once: the packets that an
 /// ACK or the timer shows to be lost, the MTU probe aside, are one congestion event where one of them
 /// counted as in flight, and none else (RFC 9002, section 7.3.2). An ACK tells it besides of marks
-/// alone, in which no bytes are lost. It is shown on a controller that writes down what it is told.
+/// alone, in which no bytes are lost. It is so of each call, whatever calls were made before and
+/// whichever path it is handed (`fired`, `acked`), and of what a call does to one space. It is shown on
+/// a controller that writes down what it is told.
 pub fn losses_are_told_once()
     ensures timer { (l : Limits) (now : ℕ) (id : SpaceId) (s : SpaceRecovery) (p : PathData (List CongestionEvent)) → (space_timed recorder l now id s p).path.congestion ≡ p.congestion ++ loss_events false (those (is_no_probe id p.mtud) (space_timed recorder l now id s p).lost) }
     ensures ack { (l : Limits) (o : Occasion) (a : AckValues) (ranges : List NumberRange) (around : Around) (s : SpaceRecovery) (p : PathData (List CongestionEvent)) → (length (acked_of ranges s) == 0) ≡ false → (space_after recorder l o a ranges around s p).path.congestion ≡ p.congestion ++ (losses_of_ack l o around (space_after recorder l o a ranges around s p).lost (acks_written o a ranges around s p) ++ marks_told o a (exceeds s.greatest a.largest) (length (acked_of ranges s)) (space_acked a.largest ranges s) (path_lost recorder l o around (space_after recorder l o a ranges around s p).lost (acks_written o a ranges around s p))) }
+    ensures fired { (now : ℕ) (around : Around) (r : Recovery) (p : PathData (List CongestionEvent)) → (timeout_after recorder now around r p).path.congestion ≡ p.congestion ++ events_fired p.mtud (timeout_after recorder now around r p).fired }
+    ensures acked { (now : ℕ) (id : SpaceId) (next began : ℕ) (a : AckValues) (ranges : List NumberRange) (around : Around) (r : Recovery) (p : PathData (List CongestionEvent)) → (length (acked_of ranges (space_of id r)) == 0) ≡ false → (ack_after recorder now id next began a ranges around r p).path.congestion ≡ p.congestion ++ events_acked r.limits (occasion now id next began r) a ranges around (ack_after recorder now id next began a ranges around r p).lost (space_of id r) p }
     ensures ack_of_nothing { (l : Limits) (o : Occasion) (a : AckValues) (ranges : List NumberRange) (around : Around) (s : SpaceRecovery) (p : PathData (List CongestionEvent)) → (length (acked_of ranges s) == 0) ≡ true → (space_after recorder l o a ranges around s p).path.congestion ≡ p.congestion ++ marks_told o a (exceeds s.greatest a.largest) 0 (space_acked a.largest ranges s) p }
 {}
 

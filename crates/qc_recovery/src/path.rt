@@ -27,6 +27,9 @@ pub struct PathData<C: Controller> {
     pub first_sample: Option<(SpaceId, u64)>,
 }
 
+/// No datagram that a connection makes has more bytes, so that each length in a packet has two bytes at most.
+const MOST_SIZE: u16 = 16383;
+
 fn settings_of(config: &Option<MtuDiscoveryConfig>) -> Option<SearchSettings>
     ensures { result ≡ searched config.now }
 {
@@ -34,7 +37,7 @@ fn settings_of(config: &Option<MtuDiscoveryConfig>) -> Option<SearchSettings>
         None => None,
         Some(config) => Some(SearchSettings {
             interval: config.get_interval(),
-            upper_bound: config.get_upper_bound(),
+            upper_bound: config.get_upper_bound().min(MOST_SIZE),
             black_hole_cooldown: config.get_black_hole_cooldown(),
             minimum_change: config.get_minimum_change(),
         }),

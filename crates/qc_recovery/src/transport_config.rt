@@ -81,7 +81,6 @@ impl Default for TransportConfig {
 /// Each setter keeps all other values, and each value has a reading call of the name `get_..`.
 impl TransportConfig {
     /// Sets how many bidirectional streams the other end may have open at once.
-    /// So far this is announced, and a connection has no streams.
     pub fn max_concurrent_bidi_streams(&mut self, value: VarInt) -> &mut Self
         ensures same { result.ghost_name ≡ self.entry.ghost_name }
         ensures set { result.now ≡ record self.old { max_concurrent_bidi_streams = value } }
@@ -98,7 +97,6 @@ impl TransportConfig {
     }
 
     /// Sets how many unidirectional streams the other end may have open at once.
-    /// So far this is announced, and a connection has no streams.
     pub fn max_concurrent_uni_streams(&mut self, value: VarInt) -> &mut Self
         ensures same { result.ghost_name ≡ self.entry.ghost_name }
         ensures set { result.now ≡ record self.old { max_concurrent_uni_streams = value } }
@@ -115,7 +113,6 @@ impl TransportConfig {
     }
 
     /// Sets how many bytes of one stream the other end may send before they are read.
-    /// So far this is announced, and a connection has no streams.
     pub fn stream_receive_window(&mut self, value: VarInt) -> &mut Self
         ensures same { result.ghost_name ≡ self.entry.ghost_name }
         ensures set { result.now ≡ record self.old { stream_receive_window = value } }
@@ -132,7 +129,6 @@ impl TransportConfig {
     }
 
     /// Sets how many bytes of all streams together the other end may send before they are read.
-    /// So far this is announced, and a connection has no streams.
     pub fn receive_window(&mut self, value: VarInt) -> &mut Self
         ensures same { result.ghost_name ≡ self.entry.ghost_name }
         ensures set { result.now ≡ record self.old { receive_window = value } }
@@ -149,7 +145,6 @@ impl TransportConfig {
     }
 
     /// Sets how many bytes that the other end hasn't acknowledged are kept of all streams together.
-    /// It has no effect yet: a connection has no streams.
     pub fn send_window(&mut self, value: u64) -> &mut Self
         ensures same { result.ghost_name ≡ self.entry.ghost_name }
         ensures set { result.now ≡ record self.old { send_window = value } }
@@ -201,7 +196,6 @@ impl TransportConfig {
 
     /// Sets the size in bytes of a UDP payload that is sent before a larger one is known to pass; it is held
     /// between 1200 and 16383 (RFC 9000, section 14).
-    /// So far it counts for the congestion controller alone: each datagram has at most 1200 bytes.
     pub fn initial_mtu(&mut self, value: u16) -> &mut Self
         ensures same { result.ghost_name ≡ self.entry.ghost_name }
         ensures set { result.now ≡ record self.old { initial_mtu = max 1200 (min value 16383) } }
@@ -222,7 +216,6 @@ impl TransportConfig {
 
     /// Sets the size in bytes of a UDP payload that the path takes for certain; it is held between 1200 and
     /// 16383 (RFC 9000, section 14).
-    /// So far it counts for the congestion controller alone: each datagram has at most 1200 bytes.
     pub fn min_mtu(&mut self, value: u16) -> &mut Self
         ensures same { result.ghost_name ≡ self.entry.ghost_name }
         ensures set { result.now ≡ record self.old { min_mtu = max 1200 (min value 16383) } }
@@ -294,7 +287,7 @@ impl TransportConfig {
     }
 
     /// Sets how a larger datagram size is looked for; `None`: not at all.
-    /// It has no effect yet: no larger datagram is searched for.
+    /// No datagram has more than 16383 bytes, whatever is asked for.
     pub fn mtu_discovery_config(&mut self, value: Option<MtuDiscoveryConfig>) -> &mut Self
         ensures same { result.ghost_name ≡ self.entry.ghost_name }
         ensures set { result.now ≡ record self.old { mtu_discovery_config = value } }
@@ -344,7 +337,6 @@ impl TransportConfig {
     }
 
     /// Sets how many bytes of DATAGRAM frames wait to be sent (RFC 9221).
-    /// It has no effect yet: a connection has no DATAGRAM frames.
     pub fn datagram_send_buffer_size(&mut self, value: usize) -> &mut Self
         ensures same { result.ghost_name ≡ self.entry.ghost_name }
         ensures set { result.now ≡ record self.old { datagram_send_buffer_size = value } }
@@ -361,7 +353,6 @@ impl TransportConfig {
     }
 
     /// Sets how many bytes of DATAGRAM frames wait to be read (RFC 9221); `None`: this end takes none.
-    /// So far this is announced, and a connection has no DATAGRAM frames.
     pub fn datagram_receive_buffer_size(&mut self, value: Option<usize>) -> &mut Self
         ensures same { result.ghost_name ≡ self.entry.ghost_name }
         ensures set { result.now ≡ record self.old { datagram_receive_buffer_size = value } }
@@ -378,7 +369,6 @@ impl TransportConfig {
     }
 
     /// Sets whether streams of one priority are sent in turn.
-    /// It has no effect yet: a connection has no streams.
     pub fn send_fairness(&mut self, value: bool) -> &mut Self
         ensures same { result.ghost_name ≡ self.entry.ghost_name }
         ensures set { result.now ≡ record self.old { send_fairness = value } }
@@ -394,8 +384,8 @@ impl TransportConfig {
         self.send_fairness
     }
 
-    /// Sets whether each datagram is padded to the path's size.
-    /// It has no effect yet.
+    /// Sets whether each datagram with a packet of the Data space is padded to the path's size, or to that of the first one of its
+    /// transmit.
     pub fn pad_to_mtu(&mut self, value: bool) -> &mut Self
         ensures same { result.ghost_name ≡ self.entry.ghost_name }
         ensures set { result.now ≡ record self.old { pad_to_mtu = value } }
@@ -404,7 +394,7 @@ impl TransportConfig {
         self
     }
 
-    /// Whether each datagram is padded to the path's size.
+    /// Whether each datagram with a packet of the Data space is padded.
     pub fn get_pad_to_mtu(&self) -> bool
         ensures { result ≡ self.now.pad_to_mtu }
     {

@@ -152,7 +152,7 @@ given n r =
     record next { credit_waits = next.credit_waits || owes_credit next }
 
 -- a chunk is given in order, or out of order on a stream that is read so
-unfoldable pub chunk_given : ℕ → ℕ → Recv → Recv
+unfoldable pub chunk_given : (offset count : ℕ) → Recv → Recv
 chunk_given o n r =
     given n (record r { assembler = if r.unordered then taken o n r.assembler else advanced n r.assembler })
 

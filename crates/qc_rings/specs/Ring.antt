@@ -99,8 +99,8 @@ is_dropped Dropped = true
 is_dropped Open = false
 is_dropped (Below floor) = false
 
--- whether the end may begin a new epoch: nothing is kept of the one before, and a packet of this one
--- was acknowledged
+-- Keys are updated only after an acknowledgement in their epoch (RFC 9001, section 6). Whether the end may begin a new
+-- epoch: nothing is kept of the one before, and a packet of this one was acknowledged
 unfoldable pub may_update : Ring → Bool
 may_update r = is_dropped r.kept && r.acked
 

@@ -30,16 +30,16 @@ row lost o [] = []
 row lost o (b ∷ bs) = record { offset = o; byte = b; lost = lost } ∷ row lost (suc o) bs
 
 -- whether a byte lies in the range from start up to end
-unfoldable pub lies_in : ℕ → ℕ → Kept → Bool
+unfoldable pub lies_in : (start end : ℕ) → Kept → Bool
 lies_in start end k = nat_le start k.offset && nat_lt k.offset end
 
 -- the bytes of a range are lost, or aren't any more
-unfoldable pub marked : Bool → ℕ → ℕ → List Kept → List Kept
+unfoldable pub marked : (lost : Bool) → (start end : ℕ) → List Kept → List Kept
 marked lost start end [] = []
 marked lost start end (k ∷ ks) = (if lies_in start end k then record k { lost = lost } else k) ∷ marked lost start end ks
 
 -- without the bytes of a range
-unfoldable pub without : ℕ → ℕ → List Kept → List Kept
+unfoldable pub without : (start end : ℕ) → List Kept → List Kept
 without start end [] = []
 without start end (k ∷ ks) = if lies_in start end k then without start end ks else k ∷ without start end ks
 
@@ -48,19 +48,19 @@ unfoldable pub bytes_written : List ℕ → Buffer → Buffer
 bytes_written bs b = record b { written = b.written + length bs; kept = b.kept ++ row false b.written bs }
 
 -- how many bytes were sent at least once when a range is sealed: one that begins behind them leaves a gap, and doesn't count
-unfoldable pub sent_with : ℕ → ℕ → ℕ → ℕ → ℕ
+unfoldable pub sent_with : (start end sent written : ℕ) → ℕ
 sent_with start end sent written = if nat_le start sent then max sent (min end written) else sent
 
 -- a frame with the bytes of a range is sealed: they are in flight
-unfoldable pub range_sealed : ℕ → ℕ → Buffer → Buffer
+unfoldable pub range_sealed : (start end : ℕ) → Buffer → Buffer
 range_sealed start end b = record b { sent = sent_with start end b.sent b.written; kept = marked false start end b.kept }
 
 -- a frame with the bytes of a range is acknowledged: those that were sent are kept no more
-unfoldable pub range_acked : ℕ → ℕ → Buffer → Buffer
+unfoldable pub range_acked : (start end : ℕ) → Buffer → Buffer
 range_acked start end b = record b { kept = without start (min end b.sent) b.kept }
 
 -- a frame with the bytes of a range is lost: those that were sent and aren't acknowledged wait again
-unfoldable pub range_lost : ℕ → ℕ → Buffer → Buffer
+unfoldable pub range_lost : (start end : ℕ) → Buffer → Buffer
 range_lost start end b = record b { kept = marked true start (min end b.sent) b.kept }
 
 -- nothing is sent any more

@@ -19,7 +19,7 @@ pub data Fate : Type 0 where
   LetGo : Fate
 
 -- whether the byte at o is one of a frame with the bytes from start up to end
-unfoldable pub holds : ℕ → ℕ → ℕ → Bool
+unfoldable pub holds : (start end offset : ℕ) → Bool
 holds start end o = nat_le start o && nat_lt o end
 
 -- a frame with the byte is sealed: it is underway, whether it goes for the first time or again
@@ -73,7 +73,7 @@ fate_if true step f = step f
 fate_if false step f = f
 
 -- the byte at o after a step, before which n bytes were written
-unfoldable pub next_fate : ℕ → ℕ → Step → Fate → Fate
+unfoldable pub next_fate : (offset written : ℕ) → Step → Fate → Fate
 next_fate o n (Wrote bs) f = fate_if (nat_lt o (n + length bs)) fate_written f
 next_fate o n (Sealed start end) f = fate_if (holds start end o) fate_sealed f
 next_fate o n (Acked start end) f = fate_if (holds start end o) fate_acked f
@@ -81,7 +81,7 @@ next_fate o n (Lost start end) f = fate_if (holds start end o) fate_lost f
 next_fate o n Discarded f = fate_dropped f
 
 -- the byte at o after steps, before which n bytes were written
-unfoldable pub fate_from : ℕ → ℕ → Fate → List Step → Fate
+unfoldable pub fate_from : (offset written : ℕ) → Fate → List Step → Fate
 fate_from o n f [] = f
 fate_from o n f (x ∷ xs) = fate_from o (n + length (wrote x)) (next_fate o n x f) xs
 

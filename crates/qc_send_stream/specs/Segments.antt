@@ -33,7 +33,7 @@ among o [] = false
 among o (x ∷ xs) = o == x || among o xs
 
 -- whatever was among those is among these
-unfoldable pub Extends : List ℕ → List ℕ → Type 0
+unfoldable pub Extends : (old new : List ℕ) → Type 0
 Extends old new = (o : ℕ) → among o old ≡ true → among o new ≡ true
 
 -- none of those lies below o
@@ -52,7 +52,7 @@ Listed [] ends = Unit {0}
 Listed (e ∷ es) ends = (e.1.lost ≡ true → among e.0 ends ≡ true) × Listed es ends
 
 -- the end of each segment that ends behind start and at end or before is among those
-unfoldable pub Noted : ℕ → ℕ → List (ℕ × Segment) → List ℕ → Type 0
+unfoldable pub Noted : (start end : ℕ) → List (ℕ × Segment) → List ℕ → Type 0
 Noted start end [] ends = Unit {0}
 Noted start end (e ∷ es) ends = (start < e.0 → e.0 ≤ end → among e.0 ends ≡ true) × Noted start end es ends
 
@@ -99,7 +99,7 @@ Holds n None = Unit {0}
 Holds n (Some s) = n ≤ length s.bytes
 
 -- whether a segment ends behind start and at end or before
-unfoldable pub is_within : ℕ → ℕ → ℕ × Segment → Bool
+unfoldable pub is_within : (start end : ℕ) → ℕ × Segment → Bool
 is_within start end e = nat_lt start e.0 && nat_le e.0 end
 
 -- where a segment ends, unless it ends behind that
@@ -108,16 +108,16 @@ end_by end None = None
 end_by end (Some e) = if nat_le e.0 end then Some e.0 else None
 
 -- where the first segment ends that ends behind start and at end or before
-unfoldable pub next_within : ℕ → ℕ → List (ℕ × Segment) → Option ℕ
+unfoldable pub next_within : (start end : ℕ) → List (ℕ × Segment) → Option ℕ
 next_within start end es = end_by end (first_behind start es)
 
 -- the segments that end behind start and at end or before are lost, or aren't any more
-unfoldable pub stood : Bool → ℕ → ℕ → List (ℕ × Segment) → List (ℕ × Segment)
+unfoldable pub stood : (lost : Bool) → (start end : ℕ) → List (ℕ × Segment) → List (ℕ × Segment)
 stood lost start end [] = []
 stood lost start end (e ∷ es) = (if is_within start end e then (e.0, with_lost lost e.1) else e) ∷ stood lost start end es
 
 -- without them
-unfoldable pub outside : ℕ → ℕ → List (ℕ × Segment) → List (ℕ × Segment)
+unfoldable pub outside : (start end : ℕ) → List (ℕ × Segment) → List (ℕ × Segment)
 outside start end [] = []
 outside start end (e ∷ es) = if is_within start end e then outside start end es else e ∷ outside start end es
 
@@ -137,12 +137,12 @@ lost_front most [] = None
 lost_front most (e ∷ es) = if e.1.lost then Some (begin e, take most e.1.bytes) else lost_front most es
 
 -- at most so many bytes of a segment, none below the offset o, and their offset
-unfoldable pub part_from : ℕ → ℕ → Option (ℕ × Segment) → Option (ℕ × List ℕ)
+unfoldable pub part_from : (offset most : ℕ) → Option (ℕ × Segment) → Option (ℕ × List ℕ)
 part_from o most None = None
 part_from o most (Some e) = Some (begin e + (o - begin e), take most (drop (o - begin e) e.1.bytes))
 
 -- what is kept, as what was written
-unfoldable pub buffered : ℕ → ℕ → List (ℕ × Segment) → Buffer
+unfoldable pub buffered : (written sent : ℕ) → List (ℕ × Segment) → Buffer
 buffered written sent segments = record { written = written; sent = sent; kept = flat segments }
 
 -- What holds of all that is kept

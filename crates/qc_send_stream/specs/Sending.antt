@@ -25,7 +25,7 @@ abbrev pub kept_count : SendPart → ℕ
 kept_count s = length s.buffer.kept
 
 -- how many bytes a write takes: all that are wanted, as far as the stream's credit and the budget reach
-unfoldable pub takes : ℕ → ℕ → SendPart → ℕ
+unfoldable pub takes : (wanted budget : ℕ) → SendPart → ℕ
 takes wanted budget s = min wanted (min (s.limit - s.buffer.written) budget)
 
 -- why a write is refused where the peer stopped the stream, or for want of the stream's credit
@@ -119,15 +119,15 @@ reset_with f None = None
 reset_with f (Some r) = Some (record r { standing = f r.standing })
 
 -- a STREAM frame with the bytes of a range, and maybe the end, is sealed
-unfoldable pub part_sealed : ℕ → ℕ → Bool → SendPart → SendPart
+unfoldable pub part_sealed : (start stop : ℕ) → (last : Bool) → SendPart → SendPart
 part_sealed start stop last s = record s { buffer = range_sealed start stop s.buffer; end = end_with sealed_standing last s.end }
 
 -- it is acknowledged
-unfoldable pub part_acked : ℕ → ℕ → Bool → SendPart → SendPart
+unfoldable pub part_acked : (start stop : ℕ) → (last : Bool) → SendPart → SendPart
 part_acked start stop last s = record s { buffer = range_acked start stop s.buffer; end = end_with acked_standing last s.end }
 
 -- it is lost
-unfoldable pub part_lost : ℕ → ℕ → Bool → SendPart → SendPart
+unfoldable pub part_lost : (start stop : ℕ) → (last : Bool) → SendPart → SendPart
 part_lost start stop last s = record s { buffer = range_lost start stop s.buffer; end = end_with lost_standing last s.end }
 
 -- a RESET_STREAM is sealed

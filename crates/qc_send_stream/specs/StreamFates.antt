@@ -21,9 +21,9 @@ pub data StreamStep : Type 0 where
   Stops : VarInt → StreamStep
   Raises : ℕ → StreamStep
   -- a STREAM frame with the bytes of a range, and maybe the end, is sealed, acknowledged or lost
-  SealsPart : ℕ → ℕ → Bool → StreamStep
-  AcksPart : ℕ → ℕ → Bool → StreamStep
-  LosesPart : ℕ → ℕ → Bool → StreamStep
+  SealsPart : (start stop : ℕ) (last : Bool) → StreamStep
+  AcksPart : (start stop : ℕ) (last : Bool) → StreamStep
+  LosesPart : (start stop : ℕ) (last : Bool) → StreamStep
   -- a RESET_STREAM is sealed, acknowledged or lost
   SealsReset : StreamStep
   AcksReset : StreamStep

@@ -7,11 +7,11 @@ pub data Step : Type 0 where
   -- bytes are written
   Wrote : List ℕ → Step
   -- a frame with the bytes of a range is sealed
-  Sealed : ℕ → ℕ → Step
+  Sealed : (start end : ℕ) → Step
   -- it is acknowledged
-  Acked : ℕ → ℕ → Step
+  Acked : (start end : ℕ) → Step
   -- it is lost
-  Lost : ℕ → ℕ → Step
+  Lost : (start end : ℕ) → Step
   -- the bytes are let go
   Discarded : Step
 

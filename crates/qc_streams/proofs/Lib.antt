@@ -67,3 +67,4 @@ pub mod JustWritten
 pub mod PendingStops
 pub mod PendingFiled
 pub mod PendingLaw
+pub mod RaisedLaw

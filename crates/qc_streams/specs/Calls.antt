@@ -69,12 +69,12 @@ unfoldable pub write_refusal : ℕ → StreamsState → Option WriteError
 write_refusal id s = if s.closed then Some WriteBlocked else write_fault (budget (send_room s) s.outgoing) (known_at id s)
 
 -- how many bytes a write takes
-abbrev pub count_taken : ℕ → ℕ → Option SendPart → ℕ
+abbrev pub count_taken : (wanted most : ℕ) → Option SendPart → ℕ
 count_taken wanted most None = 0
 count_taken wanted most (Some p) = takes wanted most p
 
 -- the application writes so many bytes of a chunk's front
-unfoldable pub wrote : ℕ → ℕ → List ℕ → StreamsState → StreamsState
+unfoldable pub wrote : (id count : ℕ) → (chunk : List ℕ) → StreamsState → StreamsState
 wrote id n chunk s = touched id (queued id (passed id (record s {
   records = changed (with_sending (if_known (part_written (take n chunk)))) id s.records;
   outgoing = outgoing_written n s.outgoing;

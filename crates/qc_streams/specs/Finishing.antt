@@ -36,13 +36,13 @@ times_told id [] s n = n
 times_told id (x ∷ xs) s n = times_told id xs (after_step x s) (with_told id x s n)
 
 -- whether a frame with the byte at an offset of a stream was acknowledged
-unfoldable pub with_acked : ℕ → ℕ → Step → Bool → Bool
+unfoldable pub with_acked : (id offset : ℕ) → Step → Bool → Bool
 with_acked id o (BytesAcked j start stop last) acked = if j == id && (nat_le start o && nat_lt o stop) then true else acked
 with_acked id o EarlyRefused acked = false
 with_acked id o x acked = acked
 
 -- the same over steps
-unfoldable pub acked_on : ℕ → ℕ → List Step → Bool → Bool
+unfoldable pub acked_on : (id offset : ℕ) → List Step → Bool → Bool
 acked_on id o [] acked = acked
 acked_on id o (x ∷ xs) acked = acked_on id o xs (with_acked id o x acked)
 
@@ -57,8 +57,9 @@ unfoldable pub ended_on : ℕ → List Step → Bool → Bool
 ended_on id [] ended = ended
 ended_on id (x ∷ xs) ended = ended_on id xs (with_ended id x ended)
 
--- That a stream is finished was told or waits to be told at most once; and where it was or does, each byte that was written on it was
--- acknowledged, and its end
+-- A stream is finished once all its bytes and its end are acknowledged (RFC 9000, section 3.1). That a stream is finished
+-- was told or waits to be told at most once; and where it was or does, each byte that was written on it was acknowledged,
+-- and its end
 pub record FinishesOnce (id : ℕ) (s : StreamsState) (xs : List Step) : Type 0 where
   pub once : times_told id xs s 0 + times_finished id (after xs s).events.items ≤ 1
   pub bytes : (o : ℕ) → 0 < times_told id xs s 0 + times_finished id (after xs s).events.items → o < length (written_on id xs []) → acked_on id o xs false ≡ true

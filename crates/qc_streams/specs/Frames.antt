@@ -64,7 +64,7 @@ unfoldable pub reads_more : ℕ → StreamsState → Bool
 reads_more id s = not (is_peer_unopened id s) && reads_if (record_of id s.records)
 
 -- a STREAM frame is taken
-unfoldable pub stream_came : ℕ → ℕ → List ℕ → Bool → StreamsState → StreamsState
+unfoldable pub stream_came : (id offset : ℕ) → (bytes : List ℕ) → (last : Bool) → StreamsState → StreamsState
 stream_came id o bs last s = told_if (reads_more id s) (Readable id) (comes (stream_taken o bs last) id s)
 
 -- a RESET_STREAM frame is taken
@@ -76,7 +76,7 @@ unfoldable pub stop_came : ℕ → VarInt → StreamsState → StreamsState
 stop_came id code s = told_if (stops_at (target id s)) (Stopped id code) (met (with_sending (stop_taken code)) id s)
 
 -- a MAX_STREAM_DATA frame is taken
-unfoldable pub stream_limit_came : ℕ → ℕ → StreamsState → StreamsState
+unfoldable pub stream_limit_came : (id limit : ℕ) → StreamsState → StreamsState
 stream_limit_came id limit s = writables_told None (watched id (met (with_sending (limit_taken limit)) id s))
 
 -- a MAX_STREAMS frame is taken: a limit that rises is told

@@ -31,3 +31,4 @@ pub mod Steps
 pub mod Tied
 pub mod Finishing
 pub mod Pending
+pub mod Raised

@@ -35,5 +35,5 @@ unfoldable pub sends_in : AllRecords → ℕ
 sends_in all = count_by sends (values_of all)
 
 -- such a count, where one stream counted `before` and counts `after` now
-abbrev pub recounted : ℕ → ℕ → ℕ → ℕ
+abbrev pub recounted : (count before after : ℕ) → ℕ
 recounted count before after = saturated (count - before + after)

@@ -42,7 +42,7 @@ queueing turns f st = with_mark true (queue_one turns (f st))
 
 -- a stream was written on and marked: without credit it doesn't wait for the connection any more, the number of a place that was put by
 -- for it is taken, and the mark of one that had none is put behind the others
-abbrev pub write_followed : Bool → Bool → Bool → ℕ → StreamsState → StreamsState
+abbrev pub write_followed : (credit numbered idle : Bool) → (id : ℕ) → StreamsState → StreamsState
 write_followed credit numbered idle id s = record s {
   blocked = if credit then s.blocked else without_blocked id s.blocked;
   waiting = record s.waiting {

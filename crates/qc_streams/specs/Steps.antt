@@ -65,13 +65,13 @@ AllMay (x ∷ xs) s = MayStep x s × AllMay xs (after_step x s)
 -- A frame that comes about streams (RFC 9000, sections 19.4, 19.5 and 19.8 to 19.14), whether it is refused or not
 pub data Handed : Type 0 where
   -- a STREAM: its stream, its offset, its bytes, and whether the end is with them
-  Stream : ℕ → ℕ → List ℕ → Bool → Handed
+  Stream : (id offset : ℕ) (bytes : List ℕ) (last : Bool) → Handed
   -- a RESET_STREAM: its stream, its code and its final size
-  ResetStream : ℕ → VarInt → ℕ → Handed
+  ResetStream : (id : ℕ) (code : VarInt) (size : ℕ) → Handed
   -- a STOP_SENDING: its stream and its code
   StopSending : ℕ → VarInt → Handed
   -- a MAX_STREAM_DATA: its stream and its limit
-  MaxStreamData : ℕ → ℕ → Handed
+  MaxStreamData : (id limit : ℕ) → Handed
   -- a MAX_STREAMS: its direction and its number
   MaxStreams : Dir → ℕ → Handed
   -- a MAX_DATA: its limit

@@ -72,7 +72,7 @@ part_drawn None s = s
 part_drawn (Some d) s = sealed_part d s
 
 -- bytes of a stream are lost: those that aren't acknowledged wait again, and so does the end, from this moment on
-unfoldable pub bytes_lost : ℕ → ℕ → ℕ → Bool → StreamsState → StreamsState
+unfoldable pub bytes_lost : (id start stop : ℕ) → (last : Bool) → StreamsState → StreamsState
 bytes_lost id start stop last s = touched id (queued id (record s { records = changed (with_sending (part_lost start stop last)) id s.records }))
 
 -- whether all bytes and the end are acknowledged
@@ -86,20 +86,20 @@ finished_at None = false
 finished_at (Some st) = is_finished st.sending
 
 -- bytes of a stream are acknowledged
-unfoldable pub bytes_taken : ℕ → ℕ → ℕ → Bool → StreamsState → StreamsState
+unfoldable pub bytes_taken : (id start stop : ℕ) → (last : Bool) → StreamsState → StreamsState
 bytes_taken id start stop last s = record s { records = changed (with_sending (part_acked start stop last)) id s.records }
 
 -- whether with them all bytes and the end are
-unfoldable pub finishes : ℕ → ℕ → ℕ → Bool → StreamsState → Bool
+unfoldable pub finishes : (id start stop : ℕ) → (last : Bool) → StreamsState → Bool
 finishes id start stop last s =
     not (finished_at (record_of id s.records)) && finished_at (record_of id (bytes_taken id start stop last s).records)
 
 -- the same; a stream that has ended leaves
-unfoldable pub bytes_gone : ℕ → ℕ → ℕ → Bool → StreamsState → StreamsState
+unfoldable pub bytes_gone : (id start stop : ℕ) → (last : Bool) → StreamsState → StreamsState
 bytes_gone id start stop last s = settled id (bytes_taken id start stop last s)
 
 -- the same, with the events that the stream is finished, and that streams can be written on again, in ascending order of ids
-unfoldable pub bytes_acked : ℕ → ℕ → ℕ → Bool → StreamsState → StreamsState
+unfoldable pub bytes_acked : (id start stop : ℕ) → (last : Bool) → StreamsState → StreamsState
 bytes_acked id start stop last s =
     writables_told None (told_if (finishes id start stop last s) (Finished id) (writables_told (Some id) (bytes_gone id start stop last s)))
 

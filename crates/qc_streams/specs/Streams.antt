@@ -65,7 +65,7 @@ no_limits = record { all_data = 0; bidi_streams = 0; uni_streams = 0; peer_bidi_
 
 -- no stream is open: an end that lets its peer have so many open, with its windows for what comes on all of them and on one, and
 -- for the bytes that are kept
-unfoldable pub new_streams : Side → ℕ → ℕ → ℕ → ℕ → ℕ → Bool → StreamsState
+unfoldable pub new_streams : Side → (uni bi window stream_window send_window : ℕ) → (fair : Bool) → StreamsState
 new_streams side uni bi window stream_window send_window fair = record {
   side = side;
   closed = false;
@@ -150,7 +150,7 @@ unfoldable pub is_past_limit : ℕ → StreamsState → Bool
 is_past_limit id s = not (is_own s.side id) && nat_le (by_dir (dir_of id) s.peer).limit (id / 4)
 
 -- so many streams of an id's kind, from an index on, are added
-unfoldable pub made : ℕ → ℕ → ℕ → Stream → AllRecords → AllRecords
+unfoldable pub made : (id from count : ℕ) → Stream → AllRecords → AllRecords
 made id from zero st all = all
 made id from (suc k) st all = with_new (4 * (from + k) + id % 4) st (made id from k st all)
 

@@ -44,7 +44,8 @@ unfoldable pub HaveLimits : List Step → Type 0
 HaveLimits [] = Unit {0}
 HaveLimits (x ∷ xs) = HasLimit x × HaveLimits xs
 
--- Whatever happened, the bytes of all writes are at most the greatest limit that came
+-- No more bytes are written, on all streams together, than the greatest limit that came (RFC 9000, section 4.1). Whatever
+-- happened, the bytes of all writes are at most the greatest limit that came
 unfoldable pub WritesWithin : StreamsState → List Step → Type 0
 WritesWithin s xs = HaveLimits xs → AreTaken xs s → bytes_written xs 0 ≤ greatest_limit xs 0
 
@@ -66,7 +67,7 @@ end_on id [] = 0
 end_on id (e ∷ ends) = if e.0 == id then e.1 else end_on id ends
 
 -- an end comes on a stream: its greatest counts
-unfoldable pub end_raised : ℕ → ℕ → List (ℕ × ℕ) → List (ℕ × ℕ)
+unfoldable pub end_raised : (id end : ℕ) → List (ℕ × ℕ) → List (ℕ × ℕ)
 end_raised id end [] = (id, end) ∷ []
 end_raised id end (e ∷ ends) = if e.0 == id then (e.0, max e.1 end) ∷ ends else e ∷ end_raised id end ends
 
@@ -88,6 +89,8 @@ unfoldable pub all_ends : List (ℕ × ℕ) → ℕ
 all_ends [] = 0
 all_ends (e ∷ ends) = e.1 + all_ends ends
 
--- Whatever happened, what counts as received is the sum over all streams of the greatest end that came, which stands still at 2^64 - 1
+-- What counts for the connection's credit is the greatest end that came on each stream, all together (RFC 9000, sections
+-- 4.1 and 4.5). Whatever happened, what counts as received is the sum over all streams of the greatest end that came, which
+-- stands still at 2^64 - 1
 unfoldable pub CountsWhatCame : StreamsState → List Step → Type 0
 CountsWhatCame s xs = ArePossible xs → AreTaken xs s → (after xs s).incoming.received ≡ saturated (all_ends (ends_came xs s []))

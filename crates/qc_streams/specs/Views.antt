@@ -99,7 +99,7 @@ IsUntaken ClosedStream before after id s s' = (after ≡ before) × (s' ≡ s)
 IsUntaken (Stopped code) before after id s s' = (after ≡ before) × (s' ≡ s)
 
 -- how many bytes a write takes, none where it is refused
-abbrev pub unrefused : ℕ → ℕ → Option SendPart → ℕ
+abbrev pub unrefused : (wanted most : ℕ) → Option SendPart → ℕ
 unrefused wanted most p = if is_some (write_fault most p) then 0 else count_taken wanted most p
 
 -- why a read gives nothing, as the application is told; a side that is read on isn't closed

@@ -46,7 +46,7 @@ pub data Step : Type 0 where
   Opened : Dir → Step
   Accepted : Dir → Step
   -- so many bytes of a chunk are written, or a write is refused
-  Wrote : ℕ → ℕ → List ℕ → Step
+  Wrote : (id count : ℕ) (chunk : List ℕ) → Step
   Refused : WriteError → ℕ → Step
   -- a stream is finished, or reset
   Finished : ℕ → Step
@@ -64,10 +64,10 @@ pub data Step : Type 0 where
   -- an event is told
   Polled : Step
   -- a frame comes
-  StreamCame : ℕ → ℕ → List ℕ → Bool → Step
-  ResetCame : ℕ → VarInt → ℕ → Step
+  StreamCame : (id offset : ℕ) (bytes : List ℕ) (last : Bool) → Step
+  ResetCame : (id : ℕ) (code : VarInt) (size : ℕ) → Step
   StopCame : ℕ → VarInt → Step
-  StreamLimitCame : ℕ → ℕ → Step
+  StreamLimitCame : (id limit : ℕ) → Step
   StreamsLimitCame : Dir → ℕ → Step
   LimitCame : ℕ → Step
   -- marks are taken off
@@ -77,8 +77,8 @@ pub data Step : Type 0 where
   ControlLost : Control → Step
   ControlAcked : Control → Step
   PartSealed : StreamPart → Step
-  BytesLost : ℕ → ℕ → ℕ → Bool → Step
-  BytesAcked : ℕ → ℕ → ℕ → Bool → Step
+  BytesLost : (id start stop : ℕ) (last : Bool) → Step
+  BytesAcked : (id start stop : ℕ) (last : Bool) → Step
 
 -- what a step leaves
 unfoldable pub after_step : Step → StreamsState → StreamsState

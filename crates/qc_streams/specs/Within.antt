@@ -41,7 +41,7 @@ abbrev pub TakesWithin : Option Recv → Type 0
 TakesWithin None = Unit {0}
 TakesWithin (Some r) = (r.greatest ≤ credit r) × (r.announced ≤ credit r)
 
--- Both
+-- Flow control holds on a stream, both ways (RFC 9000, section 4.1)
 abbrev pub IsWithin : Option Stream → Type 0
 IsWithin None = Unit {0}
 IsWithin (Some st) = SendsWithin st.sending × TakesWithin st.receiving

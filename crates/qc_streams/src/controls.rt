@@ -47,7 +47,7 @@ impl StreamsState {
 
     /// The same; the stream waits for the connection, where a write was blocked on it.
     #[tactic(auto, unfolding(crate::specs::Frames::stream_limit_came))]
-    fn raise_stream(&mut self, id: StreamId, limit: VarInt) -> Result<(), AllocError>
+    pub(crate) fn raise_stream(&mut self, id: StreamId, limit: VarInt) -> Result<(), AllocError>
         ensures { OnOk result (self.new ≡ stream_limit_came id limit self.old) }
     {
         self.meet_limit(id.value(), limit)?;

@@ -25,6 +25,7 @@ mod owed;
 mod parts;
 mod pending;
 mod pending_laws;
+mod raised;
 mod received;
 mod records;
 mod recv_stream;
@@ -60,6 +61,7 @@ pub use laws::{
 pub use parts::StreamPart;
 pub use pending_laws::{control_that_waits_is_drawn, what_waits_is_drawn};
 pub use qc_recv::{Chunk, ReadableError};
+pub use raised::opened_streams_are_raised_by_steps;
 pub use records::Records;
 pub use recv_stream::{Chunks, RecvStream, ShouldTransmit};
 pub use send_stream::SendStream;

@@ -100,6 +100,8 @@ pub enum Act {
     BytesAcked(u32, u64, u64, bool),
     /// The peer's first limits are known.
     Limits(PeerLimits),
+    /// They came a second time, and those of open streams rise to them.
+    RaiseOpened,
     /// The send window is set.
     SendWindow(u64),
     /// The receive window is set.
@@ -284,7 +286,7 @@ fn is_barred(refusal: ReadableError, given: Given) -> bool {
     }
 }
 
-/// Whether a read of at most so many bytes gives that.
+/// Whether a read of at most so many bytes gives that, by the stream's view.
 fn reads(
     streams: &mut StreamsState,
     stream: u32,
@@ -292,7 +294,7 @@ fn reads(
     most: usize,
     given: Given,
 ) -> bool {
-    match streams.chunks(id(stream), ordered) {
+    match streams.recv_stream(id(stream)).read(ordered) {
         Ok(mut chunks) => gives(&chunks.next(most), given),
         Err(refusal) => is_barred(refusal, given),
     }
@@ -457,6 +459,7 @@ impl Act {
     fn sends(&self, streams: &mut StreamsState) -> bool {
         match *self {
             Act::File => streams.file_marks().is_ok(),
+            Act::RaiseOpened => streams.raise_opened().is_ok(),
             Act::Waits(bytes, control) => {
                 streams.has_waiting() == bytes && streams.has_control() == control
             }

@@ -1,9 +1,9 @@
-//! Early data that the server refuses.
+//! Early data that the server refuses, or accepts.
 
 use crate::acts::{Act, id, number};
 use crate::setups::{Setup, first_of_client, usual};
 use qc_base::Dir;
-use qc_streams::{Control, PeerLimits, WriteError};
+use qc_streams::{Control, PeerLimits, StreamEvent, WriteError};
 use std::test::Fail;
 
 /// A client whose windows are 10 bytes, and that may keep 7.
@@ -54,6 +54,43 @@ fn all_streams_are_as_new(rt: HostRuntime) -> Result<(), Fail> {
         Act::Write(0, 6, Ok(3)),
     ];
     assert_eq!(rt; first_of_client(rt.alloc(), setup(), &acts)?, None);
+    Ok(())
+}
+
+#[test]
+fn parameters_that_come_again_raise_open_streams(rt: HostRuntime) -> Result<(), Fail> {
+    let setup = Setup {
+        send_window: 100,
+        ..setup()
+    };
+    let before = PeerLimits {
+        all_data: 20,
+        ..limits(3, 4)
+    };
+    let again = PeerLimits {
+        all_data: 40,
+        ..limits(3, 7)
+    };
+    let acts = [
+        Act::Limits(before),
+        Act::Open(Dir::Bi, Some(0)),
+        Act::Open(Dir::Bi, Some(4)),
+        Act::Write(0, 9, Ok(4)),
+        Act::Write(0, 9, Err(WriteError::Blocked)),
+        // the second stream has more credit than the parameters give that come
+        Act::MaxStreamData(4, 9, None),
+        Act::Write(4, 12, Ok(9)),
+        Act::Limits(again),
+        Act::Write(0, 9, Err(WriteError::Blocked)),
+        Act::RaiseOpened,
+        Act::Poll(Some(StreamEvent::Writable { id: id(0) })),
+        Act::Write(0, 9, Ok(3)),
+        Act::Write(4, 9, Err(WriteError::Blocked)),
+        // a stream that is opened then has these limits by itself
+        Act::Open(Dir::Bi, Some(8)),
+        Act::Write(8, 9, Ok(7)),
+    ];
+    assert_eq!(rt; first_of_client(rt.alloc(), setup, &acts)?, None);
     Ok(())
 }
 

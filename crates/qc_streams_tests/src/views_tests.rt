@@ -143,10 +143,13 @@ fn reads_are_refused_in_order(rt: HostRuntime) -> Result<(), Fail> {
         // what is begun out of order stays so, though nothing was read
         Act::Reads(1, false, 9, nothing, false),
         Act::Read(1, true, 9, Given::Unordered),
+        // a refusal closes nothing: streams can be opened behind it
+        Act::Open(Dir::Bi, Some(0)),
         Act::Reads(1, false, 9, all, true),
         Act::Stop(1, 1, true),
         Act::Stop(1, 1, false),
         Act::Read(1, true, 9, Given::Closed),
+        Act::Open(Dir::Bi, Some(4)),
     ];
     assert_eq!(rt; first_of_client(rt.alloc(), usual(), &acts)?, None);
     Ok(())
