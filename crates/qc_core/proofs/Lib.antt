@@ -6,4 +6,5 @@ pub mod Skips
 pub mod StreamCalls
 pub mod DatagramCalls
 pub mod TakenAcks
+pub mod TakenPings
 pub mod GivenReasons

@@ -12,7 +12,7 @@ use crate::state::Core;
 use bytes::Bytes;
 use qc_datagrams::{Datagrams, SendRefusal, max_size};
 use qc_params::TransportParameters;
-use qc_state::{Answer, Body, DATAGRAM_SIZE, Events, Refusal, Suite};
+use qc_state::{Answer, Body, Events, Refusal, Suite};
 use std::alloc::{AllocError, Global};
 
 /// A datagram is sent, for which the oldest are dropped that wait; it may have `most` bytes, where the peer takes any. Answers why it is
@@ -81,12 +81,12 @@ fn frame_size(peer: &Option<TransportParameters>) -> Option<u64>
 
 impl<U: Suite> Core<U> {
     /// How many bytes a datagram of the application may have. None exactly where the peer takes none, or its parameters aren't known.
-    #[tactic(auto, unfolding(qc_state::specs::Run::datagram_limit, qc_state::specs::Offers::path_size, qc_state::specs::Setup::ideal_setup))]
+    #[tactic(auto, unfolding(qc_state::specs::Run::datagram_limit, qc_state::specs::Setup::ideal_setup))]
     pub fn datagram_limit(&self) -> Option<u64>
         ensures { result ≡ datagram_limit (ideal U.Random.stream self.now) }
     {
         max_size(
-            DATAGRAM_SIZE as u64,
+            self.path_size(),
             self.paths.current.remote_cid.len(),
             frame_size(&self.setup.peer),
         )

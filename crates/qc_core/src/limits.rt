@@ -1,14 +1,18 @@
 //! What holds a datagram back: the congestion window, and the pacer (RFC 9002, sections 7 and 7.7).
 
-ghost use Rattle.std.specs.Prelude.{◌≡◌};
-ghost use Rattle.qc_state.specs.Moves.{Finish, Hold, Spend, move_to, state_move};
-ghost use Rattle.qc_state.specs.Sending.{is_congested, is_eager, limit_in, paced_until, rate_of, spent_after, told_sent};
+ghost use Rattle.std.specs.Prelude.{◌≡◌, ◌&&◌};
+ghost use Rattle.qc_state.specs.Keys.{has_keys_for};
+ghost use Rattle.qc_state.specs.Life.{is_established};
+ghost use Rattle.qc_state.specs.declared.form.Form.TheVariants.{OneRtt};
+ghost use Rattle.qc_state.specs.Moves.{Finish, Hold, Probe, Spend, move_to, state_move};
+ghost use Rattle.qc_state.specs.Sending.{is_congested, is_eager, limit_in, paced_until, probe_size, rate_of, spent_after, told_sent};
 ghost use Rattle.qc_state.specs.View.{ideal, held};
 
 use crate::state::Core;
 use qc_base::{Instant, SpaceId};
 use qc_path::{Controller, PathRate};
-use qc_state::{Batch, Dids, Means, Quiet, Suite};
+use qc_state::paths::held_size;
+use qc_state::{Batch, Dids, Form, Means, Quiet, Suite};
 
 impl<U: Suite> Core<U> {
     /// Whether what goes in the space is held back by the window and the pacer: a frame waits there that elicits an acknowledgement,
@@ -72,6 +76,28 @@ impl<U: Suite> Core<U> {
         }
         None
     }
+
+    /// Whether a probe of the path's size may be sent: the handshake is over, and the address is validated.
+    fn may_probe(&self) -> bool
+        ensures { result ≡ (is_established self.now.life.state && (self.now.paths.current.validated && has_keys_for self.now.keys OneRtt)) }
+    {
+        self.life.is_established()
+            && (self.paths.current.validated && self.keys.has_for(Form::OneRtt))
+    }
+
+    /// The size of the probe that is due, if one is: the one that the search for a larger datagram names.
+    #[tactic(auto, unfolding(qc_state::specs::Sending::probe_size))]
+    pub fn probe_size(&self, now: Instant) -> Option<u64>
+        ensures { result ≡ probe_size now (ideal U.Random.stream self.now) }
+    {
+        if !self.may_probe() {
+            return None;
+        }
+        match self.paths.current.kept.mtud.probe_due(now) {
+            None => None,
+            Some(size) => Some(held_size(size)),
+        }
+    }
 }
 
 #[tactic(auto, unfolding(qc_state::specs::Moves::move_to, qc_state::specs::Moves::state_move, qc_state::specs::Moves::numbers_move, qc_state::specs::Moves::keys_move, qc_state::specs::Moves::life_move, qc_state::specs::Moves::paths_move, qc_state::specs::Moves::timers_move, qc_state::specs::Moves::waiting_move, qc_state::specs::Moves::setup_move, qc_state::specs::Moves::lower_move, qc_state::specs::Moves::deeds_move, qc_state::specs::Setup::ideal_setup, qc_state::specs::Paths::path_kept, qc_state::specs::Sending::spent_after, qc_state::specs::Sending::told_sent))]
@@ -82,6 +108,13 @@ impl<U: Suite> Core<U> {
     {
         let rate = self.rate();
         self.paths.current.kept.pacing.sent(now, &rate, size);
+    }
+
+    /// A probe of the path's size was sealed, with this number and so many bytes, by a transmit that would have sealed nothing for this cause.
+    pub fn do_probe(&mut self, now: Instant, number: u64, bytes: u64, quiet: Quiet)
+        ensures { (ideal U.Random.stream self.new) ≡ state_move (Probe now number bytes quiet) (ideal U.Random.stream self.old) }
+    {
+        self.paths.probed(now, number, bytes, quiet);
     }
 
     /// The pacer holds a datagram back until a time.

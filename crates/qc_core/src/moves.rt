@@ -1,6 +1,6 @@
 //! The moves of a connection, one function each.
 
-ghost use Rattle.std.specs.Prelude.{◌≡◌, [], ◌+◌, ◌<◌, ◌≤◌, ◌^◌, ◌==◌, ◌++◌, Err, true, length, map, not, option_to_list, slice_get, if◌then◌else◌, OnOk, OnErr, IfOk};
+ghost use Rattle.std.specs.Prelude.{◌≡◌, [], ◌+◌, ◌-◌, ◌<◌, ◌≤◌, ◌^◌, ◌==◌, ◌++◌, Err, true, false, length, map, not, option_to_list, slice_get, if◌then◌else◌, OnOk, OnErr, IfOk, ◌∷◌};
 ghost use Rattle.qc_assembler.specs.Assembly.{inserted, part_count};
 ghost use Rattle.qc_core.specs.Sealing.{sealed_drawn};
 ghost use Rattle.qc_state.specs.Acks.{AckPart, is_ack, may_acknowledge};
@@ -8,13 +8,14 @@ ghost use Rattle.qc_state.specs.Life.{ready_event, connected_event, lost_event, 
 ghost use Rattle.qc_state.specs.Lower.{handed_stop, packet_flown, ready_bytes, stream_of};
 ghost use Rattle.qc_frame.specs.Frame.{ack_map, borrowed};
 ghost use Rattle.qc_frame.specs.FrameFits.{Fits};
-ghost use Rattle.qc_frame.specs.FrameSpelling.{elicits};
+ghost use Rattle.qc_frame.specs.FrameSpelling.{elicits, frames_spelling};
 ghost use Rattle.qc_frame.specs.declared.frames.FrameOf.TheVariants as frames;
 ghost use Rattle.std.specs.List.{list_any};
 ghost use Rattle.qc_state.specs.Flight.{flown_packet};
 ghost use Rattle.qc_state.specs.Moves.{Clock, Ask, Take, Forget, Expect, Enter, Fail, Accept, Fix, Hear, Ack, Fire, Arm, Come, Pace, Ready, Release, Skip, Token, Learn, Want, Confirm, Establish, Tell, PeerClosesToo, PeerCloses, Owe, Shut, Raise, Say, Hand, Post, ReportReady, ReportConnected, ReportHeard, ReportAllHeard, ReportStream, ReportStreams, ReportLost, ReportNotice, ReportNotices, ReportDrained, move_to, state_move, tells_congestion};
 ghost use Rattle.qc_base.specs.declared.side.SpaceId.TheVariants.{«Data»};
 ghost use Rattle.qc_state.specs.Numbers.{is_skipped};
+ghost use Rattle.qc_state.specs.Offers.{offers_in};
 ghost use Rattle.qc_state.specs.Recovering.{fired_by, probe_timeout_now, settled_by};
 ghost use Rattle.qc_state.specs.Setup.{idle_limit_now};
 ghost use Rattle.qc_state.specs.Spaces.{is_space, space_of};
@@ -40,7 +41,7 @@ use bytes::Bytes;
 use qc_assembler::InsertError;
 use qc_base::{ConnectionId, EcnCodepoint, Instant, ResetToken, SpaceId, TransportError};
 use qc_datagrams::SendRefusal;
-use qc_frame::{Ack, Frame, FrameList};
+use qc_frame::{Ack, Frame, FrameList, FrameOf};
 use qc_params::TransportParameters;
 use qc_path::{Arrival, next_bundled_ack_time};
 use qc_state::flight::flown_packet;
@@ -50,7 +51,7 @@ use qc_state::unblocking::take_frames;
 use qc_state::waiting::holds_ack;
 use qc_state::{
     Body, Close, Did, Dids, EndpointEvent, EndpointEvents, Event, Events, Form, Layer, Means,
-    Quiet, Signs, State, Suite, Verdict, id_settling,
+    Quiet, SPARE_ROOM, Signs, State, Suite, Verdict, id_settling,
 };
 use qc_streams::StreamEvent;
 use std::alloc::{AllocError, Global};
@@ -65,7 +66,7 @@ fn tells_congestion(mark: Option<EcnCodepoint>) -> bool
     }
 }
 
-#[tactic(auto, unfolding(qc_state::specs::Moves::move_to, qc_state::specs::Moves::state_move, qc_state::specs::Moves::numbers_move, qc_state::specs::Moves::keys_move, qc_state::specs::Moves::life_move, qc_state::specs::Moves::paths_move, qc_state::specs::Moves::timers_move, qc_state::specs::Moves::waiting_move, qc_state::specs::Moves::setup_move, qc_state::specs::Moves::lower_move, qc_state::specs::Moves::deeds_move, qc_state::specs::Setup::ideal_setup, qc_state::specs::Setup::idle_limit_now, qc_state::specs::Setup::parameters_known, qc_state::specs::Setup::token_expected, qc_state::specs::Lower::session_wrote, qc_state::specs::Lower::datagrams_stepped, qc_state::specs::Lower::streams_stepped, qc_state::specs::Lower::ids_stepped, qc_state::specs::Life::datagram_heard, qc_datagrams::specs::Steps::after, qc_datagrams::specs::Steps::after_step, qc_cids::specs::Steps::after, qc_state::specs::Paths::path_kept, crate::specs::Sealing::sealed_drawn))]
+#[tactic(auto, unfolding(qc_state::specs::Moves::move_to, qc_state::specs::Moves::state_move, qc_state::specs::Moves::numbers_move, qc_state::specs::Moves::keys_move, qc_state::specs::Moves::life_move, qc_state::specs::Moves::paths_move, qc_state::specs::Moves::timers_move, qc_state::specs::Moves::waiting_move, qc_state::specs::Moves::setup_move, qc_state::specs::Moves::lower_move, qc_state::specs::Moves::deeds_move, qc_state::specs::Offers::offers_in, qc_state::specs::Setup::ideal_setup, qc_state::specs::Setup::idle_limit_now, qc_state::specs::Setup::parameters_known, qc_state::specs::Setup::token_expected, qc_state::specs::Lower::session_wrote, qc_state::specs::Lower::datagrams_stepped, qc_state::specs::Lower::streams_stepped, qc_state::specs::Lower::ids_stepped, qc_state::specs::Life::datagram_heard, qc_datagrams::specs::Steps::after, qc_datagrams::specs::Steps::after_step, qc_cids::specs::Steps::after, qc_state::specs::Paths::path_kept, crate::specs::Sealing::sealed_drawn))]
 impl<U: Suite> Core<U> {
     /// The connection is told a time.
     pub fn do_clock(&mut self, now: Instant)
@@ -95,6 +96,7 @@ impl<U: Suite> Core<U> {
         ensures oldest { IfOk result (λ frames. AllOldest frames self.old.lower.datagrams) }
         ensures next { IfOk result (λ frames. AllNext frames self.old.lower.ids) }
         ensures leads { IfOk result (λ frames. (ideal U.Random.stream self.new) ≡ state_move (Take space frames) (ideal U.Random.stream self.old)) }
+        ensures full { IfOk result (λ frames. SPARE_ROOM ≤ room - length (frames_spelling frames) → offers_in (ideal U.Random.stream self.new) space ≡ false) }
     {
         take_frames(
             &mut self.waiting,
@@ -105,6 +107,17 @@ impl<U: Suite> Core<U> {
             space,
             room,
         )
+    }
+
+    /// The PING of 1-RTT packets alone leaves what waits. Want of memory is the only refusal.
+    pub fn do_take_ping(&mut self, alloc: Global) -> Result<FrameList, AllocError>
+        ensures frames { IfOk result (λ list. list ≡ frames.Ping ∷ []) }
+        ensures leads { OnOk result ((ideal U.Random.stream self.new) ≡ state_move (Take «Data» (frames.Ping ∷ [])) (ideal U.Random.stream self.old)) }
+    {
+        let mut frames = FrameList::new(alloc);
+        frames.push(FrameOf::Ping)?;
+        self.waiting.spaces.application.ping = false;
+        Ok(frames)
     }
 
     /// The ACK leaves what waits, where there is something to acknowledge and so much room for it.
@@ -397,6 +410,7 @@ impl<U: Suite> Core<U> {
         ensures { (ideal U.Random.stream self.new) ≡ state_move (Learn parameters) (ideal U.Random.stream self.old) }
     {
         self.lower.learn_limits(&parameters);
+        self.paths.cap(&parameters);
         self.paths.name(self.lower.ids.remote.active());
         self.setup.learn(parameters);
     }

@@ -5,7 +5,7 @@ ghost use Rattle.qc_base.specs.PacketNumber.{number_len, number_of};
 ghost use Rattle.qc_state.specs.Acks.{is_ack_owed};
 ghost use Rattle.qc_state.specs.Ids.{ids_want};
 ghost use Rattle.qc_state.specs.Moves.{Begin, state_move};
-ghost use Rattle.qc_state.specs.Offers.{datagram_fits, datagram_waits, oldest_in, packet_again, probe_begun, probe_sent, short_room, streams_filed, streams_want, waits_in, wants_sending, with_ping};
+ghost use Rattle.qc_state.specs.Offers.{datagram_fits, datagram_waits, oldest_in, packet_again, path_size, probe_begun, probe_sent, short_room, streams_filed, streams_want, waits_in, wants_sending, with_ping};
 ghost use Rattle.qc_state.specs.Sending.{wants_in};
 ghost use Rattle.qc_state.specs.Spaces.{space_of};
 ghost use Rattle.qc_state.specs.View.{ideal};
@@ -13,10 +13,10 @@ ghost use Rattle.qc_state.specs.View.{ideal};
 use crate::state::Core;
 use qc_base::SpaceId;
 use qc_cids::ConnectionIds;
+use qc_state::Suite;
 use qc_state::datagrams::first_fits;
 use qc_state::id_settling::frames_lost;
 use qc_state::stream_settling::{file, packet_lost};
-use qc_state::{DATAGRAM_SIZE, Suite};
 use qc_streams::StreamsState;
 use std::alloc::AllocError;
 
@@ -63,6 +63,13 @@ fn number_len(number: u64, acked: u64) -> usize
 }
 
 impl<U: Suite> Core<U> {
+    /// How many bytes a datagram to the path in use may have.
+    pub fn path_size(&self) -> u64
+        ensures { result ≡ path_size (ideal U.Random.stream self.now) }
+    {
+        self.paths.current.most()
+    }
+
     /// How much room for frames a 1-RTT packet has that has so many bytes, with the number that comes next.
     #[tactic(auto, unfolding(qc_state::specs::Offers::short_room, qc_state::specs::Setup::ideal_setup))]
     pub fn short_room(&self, left: usize) -> usize
@@ -89,7 +96,7 @@ impl<U: Suite> Core<U> {
     pub(crate) fn datagram_waits(&self, space: SpaceId) -> bool
         ensures { result ≡ datagram_waits space (ideal U.Random.stream self.now) }
     {
-        self.datagram_fits(space, self.short_room(DATAGRAM_SIZE as usize))
+        self.datagram_fits(space, self.short_room(self.path_size() as usize))
     }
 
     /// Whether a frame waits in the space that elicits an acknowledgement, DATAGRAMs aside.

@@ -1,11 +1,11 @@
 //! A client's connection is made.
 
 ghost use Rattle.std.specs.Prelude.{◌≡◌, ◌<◌, ◌^◌, None, length, IfOk, false};
-ghost use Rattle.qc_state.specs.First.{first_view, fixed_of};
+ghost use Rattle.qc_state.specs.First.{allowed_by, first_view, fixed_of};
 ghost use Rattle.qc_recovery.specs.Paths.{first_size};
 ghost use Rattle.qc_state.specs.View.{ideal};
 
-use crate::making::{Given, made};
+use crate::making::{Given, allowed, made};
 use bytes::Bytes;
 use qc_base::{ConnectionId, Duration, Instant, Side};
 use qc_core::Core;
@@ -34,7 +34,7 @@ pub struct ClientSetup<U: Suite> {
     pub first_cid: ConnectionId,
     /// The length of this end's ids, in bytes.
     pub cid_len: usize,
-    /// How long an id of this end is used; without a limit where there is none. So far it has no effect: only the first id is used.
+    /// How long an id of this end is used before the peer is asked to retire it (RFC 9000, 5.1.2); without a limit where there is none.
     pub cid_lifetime: Option<Duration>,
     /// The peer's address.
     pub remote: SocketAddr,
@@ -42,7 +42,7 @@ pub struct ClientSetup<U: Suite> {
     pub local_ip: Option<IpAddr>,
     /// The version of QUIC (RFC 9000, 15).
     pub version: u32,
-    /// Whether larger datagrams are searched for (RFC 9000, 14.3). So far it has no effect: a datagram has at most 1200 bytes.
+    /// Whether larger datagrams are searched for (RFC 9000, 14.3).
     pub allow_mtud: bool,
     /// The server's name.
     pub server_name: String,
@@ -59,7 +59,7 @@ pub fn new_client<U: Suite>(
 ) -> Result<Core<U>, AllocError>
     requires fresh { U.Session.is_fresh setup.session }
     requires client { U.Session.side_of setup.session ≡ Side.Client }
-    ensures made { IfOk result (λ core. (ideal U.Random.stream core) ≡ first_view ⟦<U as Means>⟧.meaning setup.session (U.Random.stream setup.random) (fixed_of Side.Client setup.version setup.local_cid setup.first_cid setup.cid_lifetime false setup.local_ip setup.transport setup.grease_quic_bit (U.Random.stream setup.random)) setup.remote setup.first_cid token setup.transport (U.Control.built setup.control now (first_size setup.transport None)) now) }
+    ensures made { IfOk result (λ core. (ideal U.Random.stream core) ≡ first_view ⟦<U as Means>⟧.meaning setup.session (U.Random.stream setup.random) (fixed_of Side.Client setup.version setup.local_cid setup.first_cid setup.cid_lifetime false setup.local_ip (allowed_by setup.allow_mtud setup.transport) setup.grease_quic_bit (U.Random.stream setup.random)) setup.remote setup.first_cid token (allowed_by setup.allow_mtud setup.transport) (U.Control.built setup.control now (first_size (allowed_by setup.allow_mtud setup.transport) None)) now) }
     ensures hello { IfOk result (λ core. core.waiting.spaces.initial.crypto.written < 2 ^ 62) }
 {
     let mut session = SoundSession::new(setup.session);
@@ -76,8 +76,9 @@ pub fn new_client<U: Suite>(
         local_ip: setup.local_ip,
         grease_quic_bit: setup.grease_quic_bit,
     };
-    let congestion = setup.control.build(now, first_mtu(&setup.transport, None));
-    let kept = PathData::new(now, &setup.transport, congestion, false, None);
+    let transport = allowed(setup.transport, setup.allow_mtud);
+    let congestion = setup.control.build(now, first_mtu(&transport, None));
+    let kept = PathData::new(now, &transport, congestion, true, None);
     let path = Path::new(setup.remote, setup.first_cid, true, kept);
     let paths = Paths::new(path, None);
     made(
@@ -89,7 +90,7 @@ pub fn new_client<U: Suite>(
         setup.random,
         given,
         paths,
-        &setup.transport,
+        &transport,
         now,
     )
 }

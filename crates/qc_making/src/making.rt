@@ -7,7 +7,7 @@ ghost use Rattle.qc_ids.specs.LocalCids.{first_local_cids};
 ghost use Rattle.qc_path.specs.Acks.{no_marks};
 ghost use Rattle.qc_send_stream.specs.Buffer.{bytes_written, nothing};
 ghost use Rattle.qc_state.specs.Draws.{behind, filter_words, key_phase_of, word};
-ghost use Rattle.qc_state.specs.First.{first_streams, fixed_of, just_made, nothing_waits};
+ghost use Rattle.qc_state.specs.First.{allowed_by, first_streams, fixed_of, just_made, nothing_waits};
 ghost use Rattle.qc_state.specs.Setup.{idle_limit_of};
 ghost use Rattle.qc_state.specs.View.{ideal};
 ghost use Rattle.qc_state.specs.declared.spaces.Spaces.{Spaces};
@@ -92,6 +92,17 @@ fn first_issued(preferred: bool) -> u64
     1
 }
 
+/// A configuration, by which larger datagrams are looked for as it says, or not at all.
+pub(crate) fn allowed(transport: TransportConfig, allow_mtud: bool) -> TransportConfig
+    ensures { result ≡ allowed_by allow_mtud transport }
+{
+    let mut transport = transport;
+    if !allow_mtud {
+        transport.mtu_discovery_config(None);
+    }
+    transport
+}
+
 /// What doesn't change of a connection: it draws how many packets the first 1-RTT keys seal, and whether it spins.
 fn fixed<R: Rng>(given: Given, transport: &TransportConfig, random: &mut R) -> Fixed
     ensures value { result ≡ fixed_of given.side given.version given.local_cid given.first_cid given.cid_lifetime given.preferred given.local_ip transport.now given.grease_quic_bit (R.stream random.old) }
@@ -114,6 +125,7 @@ fn fixed<R: Rng>(given: Given, transport: &TransportConfig, random: &mut R) -> F
         spins,
         key_phase_size,
         segmentation: transport.get_enable_segmentation_offload(),
+        pads: transport.get_pad_to_mtu(),
     }
 }
 

@@ -13,7 +13,7 @@ use Rattle.qc_state.specs.declared.input.Input.{Input}
 use Rattle.qc_script.specs.declared.settings.RandomWords.{RandomWords}
 use Rattle.qc_script.specs.declared.settings.RandomWords.TheVariants.{Zeros, Seed}
 use Rattle.qc_script.specs.declared.settings.Setting.{Setting}
-use Rattle.qc_script.specs.declared.settings.Setting.TheVariants.{Random, Time, Local, Remote, First, Addr, Token, Secret, LimitInitial, LimitHandshake, LimitFailures, Idle, Gso}
+use Rattle.qc_script.specs.declared.settings.Setting.TheVariants.{Random, Time, Local, Remote, First, Addr, Token, Secret, LimitInitial, LimitHandshake, LimitFailures, Idle, Mtud, Gso}
 use Rattle.qc_script.specs.Fields.{hex_field, address_text, flag_text, IsAddress}
 use Rattle.qc_script.specs.Script.{random_text, side_line, input_line, IsRandom, IsSeed, IsId, IsRemote, IsFirst, IsToken, IsSecret}
 use Rattle.qc_script.specs.Items.{setting_line, IsSetting, IsNextSetting, IsSettingRead, IsOfTransport, IsTransportRead}
@@ -59,6 +59,7 @@ kind (LimitInitial packets) = 318
 kind (LimitHandshake packets) = 317
 kind (LimitFailures packets) = 315
 kind (Idle limit) = 205
+kind (Mtud allowed) = 225
 kind (Gso allowed) = 218
 
 kind_at : (x : Setting) → mark (setting_line x) ≡ kind x
@@ -75,6 +76,7 @@ kind_at (LimitInitial packets) = refl
 kind_at (LimitHandshake packets) = refl
 kind_at (LimitFailures packets) = refl
 kind_at (Idle limit) = refl
+kind_at (Mtud allowed) = refl
 kind_at (Gso allowed) = refl
 
 kind_of_text : (side : Side) (text : List ℕ) (x : Setting) → IsNextSetting side text x → mark (text ++ 10 ∷ []) ≡ kind x
@@ -129,6 +131,10 @@ limit_failures_next field packets e h side = record { spelled = spelled_on (code
 pub idle_next : (field : List ℕ) (limit : ℕ) → field ≡ decimal limit → limit < 2 ^ 62 → (side : Side) → IsNextSetting side (codes "set idle " ++ field) (Idle limit)
 unfolding setting_line
 idle_next field limit e h side = record { spelled = spelled_on (codes "set idle ") field (decimal limit) e; within = h }
+
+pub mtud_next : (field : List ℕ) (allowed : Bool) → field ≡ flag_text allowed → (side : Side) → IsNextSetting side (codes "set mtud " ++ field) (Mtud allowed)
+unfolding setting_line
+mtud_next field allowed e side = record { spelled = spelled_on (codes "set mtud ") field (flag_text allowed) e; within = tt }
 
 pub gso_next : (field : List ℕ) (allowed : Bool) → field ≡ flag_text allowed → (side : Side) → IsNextSetting side (codes "set gso " ++ field) (Gso allowed)
 unfolding setting_line
@@ -195,18 +201,24 @@ unfolding setting_line
 no_idle field none side (Idle n) h = none n h.within (field_same (codes "set idle ") field (decimal n) h.spelled)
 no_idle field none side x h = let e : 205 ≡ kind x = kind_of_text side (codes "set idle " ++ field) x h in omega (arith, e)
 
+pub no_mtud : (field : List ℕ) → ((flag : Bool) → field ≢ flag_text flag) → (side : Side) (x : Setting) → IsNextSetting side (codes "set mtud " ++ field) x → ⊥
+unfolding setting_line
+no_mtud field none side (Mtud flag) h = none flag (field_same (codes "set mtud ") field (flag_text flag) h.spelled)
+no_mtud field none side x h = let e : 225 ≡ kind x = kind_of_text side (codes "set mtud " ++ field) x h in omega (arith, e)
+
 pub no_gso : (field : List ℕ) → ((flag : Bool) → field ≢ flag_text flag) → (side : Side) (x : Setting) → IsNextSetting side (codes "set gso " ++ field) x → ⊥
 unfolding setting_line
 no_gso field none side (Gso flag) h = none flag (field_same (codes "set gso ") field (flag_text flag) h.spelled)
 no_gso field none side x h = let e : 218 ≡ kind x = kind_of_text side (codes "set gso " ++ field) x h in omega (arith, e)
 
 -- a text with none of the words is the line of no setting of the transport
-pub no_transport : (text : List ℕ) → ((rest : List ℕ) → text ≢ codes "set idle " ++ rest) → ((rest : List ℕ) → text ≢ codes "set gso " ++ rest)
+pub no_transport : (text : List ℕ) → ((rest : List ℕ) → text ≢ codes "set idle " ++ rest) → ((rest : List ℕ) → text ≢ codes "set mtud " ++ rest) → ((rest : List ℕ) → text ≢ codes "set gso " ++ rest)
     → (side : Side) (x : Setting) → IsOfTransport x → IsNextSetting side text x → ⊥
 unfolding setting_line
-no_transport text idles gsos side (Idle limit) of h = idles (decimal limit) (words_and_field (codes "set idle ") text (decimal limit) h.spelled)
-no_transport text idles gsos side (Gso allowed) of h = gsos (flag_text allowed) (words_and_field (codes "set gso ") text (flag_text allowed) h.spelled)
-no_transport text idles gsos side _ of h = absurd of
+no_transport text idles mtuds gsos side (Idle limit) of h = idles (decimal limit) (words_and_field (codes "set idle ") text (decimal limit) h.spelled)
+no_transport text idles mtuds gsos side (Mtud allowed) of h = mtuds (flag_text allowed) (words_and_field (codes "set mtud ") text (flag_text allowed) h.spelled)
+no_transport text idles mtuds gsos side (Gso allowed) of h = gsos (flag_text allowed) (words_and_field (codes "set gso ") text (flag_text allowed) h.spelled)
+no_transport text idles mtuds gsos side _ of h = absurd of
 
 -- what is read of a text as a setting is one of the transport too, and what isn't is none
 pub transport_read : (side : Side) (text : List ℕ) (r : Option Setting) → IsSettingRead side text r → IsTransportRead side text r
@@ -231,6 +243,7 @@ no_set_word text randoms times locals remotes firsts addrs tokens secrets initia
 no_set_word text randoms times locals remotes firsts addrs tokens secrets initials handshakes failures transports side (LimitHandshake packets) h = handshakes (decimal packets) (words_and_field (codes "set limit_handshake ") text (decimal packets) h.spelled)
 no_set_word text randoms times locals remotes firsts addrs tokens secrets initials handshakes failures transports side (LimitFailures packets) h = failures (decimal packets) (words_and_field (codes "set limit_failures ") text (decimal packets) h.spelled)
 no_set_word text randoms times locals remotes firsts addrs tokens secrets initials handshakes failures transports side (Idle limit) h = transports side (Idle limit) tt h
+no_set_word text randoms times locals remotes firsts addrs tokens secrets initials handshakes failures transports side (Mtud allowed) h = transports side (Mtud allowed) tt h
 no_set_word text randoms times locals remotes firsts addrs tokens secrets initials handshakes failures transports side (Gso allowed) h = transports side (Gso allowed) tt h
 
 -- behind the other words the reader of the transport's settings reads each setting
@@ -314,6 +327,7 @@ setting_line_injective side (LimitInitial n) (LimitInitial n') h k e = ap LimitI
 setting_line_injective side (LimitHandshake n) (LimitHandshake n') h k e = ap LimitHandshake (decimal_injective n n' h k (fields_same_behind (codes "set limit_handshake ") (decimal n) (decimal n') e))
 setting_line_injective side (LimitFailures n) (LimitFailures n') h k e = ap LimitFailures (decimal_injective n n' h k (fields_same_behind (codes "set limit_failures ") (decimal n) (decimal n') e))
 setting_line_injective side (Idle n) (Idle n') h k e = ap Idle (decimal_injective n n' (omega (arith, h)) (omega (arith, k)) (fields_same_behind (codes "set idle ") (decimal n) (decimal n') e))
+setting_line_injective side (Mtud a) (Mtud b) h k e = ap Mtud (flag_injective a b (fields_same_behind (codes "set mtud ") (flag_text a) (flag_text b) e))
 setting_line_injective side (Gso a) (Gso b) h k e = ap Gso (flag_injective a b (fields_same_behind (codes "set gso ") (flag_text a) (flag_text b) e))
 setting_line_injective side x y h k e = absurd (omega (arith, kinds x y e))
 
@@ -332,6 +346,7 @@ setting_word (LimitInitial packets) = refl
 setting_word (LimitHandshake packets) = refl
 setting_word (LimitFailures packets) = refl
 setting_word (Idle limit) = refl
+setting_word (Mtud allowed) = refl
 setting_word (Gso allowed) = refl
 
 pub setting_no_input : (x : Setting) (i : Input) → setting_line x ≢ input_line i
@@ -352,6 +367,7 @@ setting_ends (LimitInitial packets) = (codes "set limit_initial " ++ decimal pac
 setting_ends (LimitHandshake packets) = (codes "set limit_handshake " ++ decimal packets, sym (append_assoc (codes "set limit_handshake ") (decimal packets) (10 ∷ [])))
 setting_ends (LimitFailures packets) = (codes "set limit_failures " ++ decimal packets, sym (append_assoc (codes "set limit_failures ") (decimal packets) (10 ∷ [])))
 setting_ends (Idle limit) = (codes "set idle " ++ decimal limit, sym (append_assoc (codes "set idle ") (decimal limit) (10 ∷ [])))
+setting_ends (Mtud allowed) = (codes "set mtud " ++ flag_text allowed, sym (append_assoc (codes "set mtud ") (flag_text allowed) (10 ∷ [])))
 setting_ends (Gso allowed) = (codes "set gso " ++ flag_text allowed, sym (append_assoc (codes "set gso ") (flag_text allowed) (10 ∷ [])))
 
 -- a side's line is that of no other side

@@ -5,7 +5,7 @@ use Rattle.qc_base.specs.declared.side.Side.{Side}
 use Rattle.qc_state.specs.declared.input.Input.{Input}
 use Rattle.qc_script.specs.declared.settings.Settings.{Settings}
 use Rattle.qc_script.specs.declared.settings.Setting.{Setting}
-use Rattle.qc_script.specs.declared.settings.Setting.TheVariants.{Random, Time, Local, Remote, First, Addr, Token, Secret, LimitInitial, LimitHandshake, LimitFailures, Idle, Gso}
+use Rattle.qc_script.specs.declared.settings.Setting.TheVariants.{Random, Time, Local, Remote, First, Addr, Token, Secret, LimitInitial, LimitHandshake, LimitFailures, Idle, Mtud, Gso}
 use Rattle.qc_script.specs.declared.items.Item.{Item}
 use Rattle.qc_script.specs.declared.items.Item.TheVariants as It
 use Rattle.qc_script.specs.Fields.{hex_field, address_text, flag_text, IsAddress}
@@ -25,6 +25,7 @@ setting_line (LimitInitial packets) = codes "set limit_initial " ++ (decimal pac
 setting_line (LimitHandshake packets) = codes "set limit_handshake " ++ (decimal packets ++ 10 ∷ [])
 setting_line (LimitFailures packets) = codes "set limit_failures " ++ (decimal packets ++ 10 ∷ [])
 setting_line (Idle limit) = codes "set idle " ++ (decimal limit ++ 10 ∷ [])
+setting_line (Mtud allowed) = codes "set mtud " ++ (flag_text allowed ++ 10 ∷ [])
 setting_line (Gso allowed) = codes "set gso " ++ (flag_text allowed ++ 10 ∷ [])
 
 -- what a setting says lies within its bounds on this side
@@ -41,6 +42,7 @@ IsSetting side (LimitInitial packets) = packets < 2 ^ 64
 IsSetting side (LimitHandshake packets) = packets < 2 ^ 64
 IsSetting side (LimitFailures packets) = packets < 2 ^ 64
 IsSetting side (Idle limit) = limit < 2 ^ 62
+IsSetting side (Mtud allowed) = Unit {0}
 IsSetting side (Gso allowed) = Unit {0}
 
 -- this text and LF is the line of this setting
@@ -56,6 +58,7 @@ IsSettingRead side text (Some setting) = IsNextSetting side text setting
 -- a setting of the transport's configuration
 abbrev pub IsOfTransport : Setting → Type 0
 IsOfTransport (Idle limit) = Unit {0}
+IsOfTransport (Mtud allowed) = Unit {0}
 IsOfTransport (Gso allowed) = Unit {0}
 IsOfTransport _ = ⊥
 
@@ -78,7 +81,8 @@ setting_place (LimitInitial packets) = 9
 setting_place (LimitHandshake packets) = 10
 setting_place (LimitFailures packets) = 11
 setting_place (Idle limit) = 12
-setting_place (Gso allowed) = 13
+setting_place (Mtud allowed) = 13
+setting_place (Gso allowed) = 14
 
 -- the settings with this one among them
 abbrev pub with_setting : Settings → Setting → Settings
@@ -94,11 +98,12 @@ with_setting s (LimitInitial packets) = record s { limit_initial = Some packets 
 with_setting s (LimitHandshake packets) = record s { limit_handshake = Some packets }
 with_setting s (LimitFailures packets) = record s { limit_failures = Some packets }
 with_setting s (Idle limit) = record s { idle = Some limit }
+with_setting s (Mtud allowed) = record s { mtud = Some allowed }
 with_setting s (Gso allowed) = record s { gso = Some allowed }
 
 -- what a script says whose one line names this side
 abbrev pub side_alone : Side → Settings
-side_alone side = record { side = side; random = None; time = None; local = None; remote = None; first = None; addr = None; token = None; secret = None; limit_initial = None; limit_handshake = None; limit_failures = None; idle = None; gso = None }
+side_alone side = record { side = side; random = None; time = None; local = None; remote = None; first = None; addr = None; token = None; secret = None; limit_initial = None; limit_handshake = None; limit_failures = None; idle = None; mtud = None; gso = None }
 
 -- the line of an item
 abbrev pub item_line : Item → List ℕ
@@ -113,7 +118,7 @@ IsItem side (It.Input input) = IsWithin input
 -- the place of an item's line: an input's is that behind all set lines
 abbrev pub item_place : Item → ℕ
 item_place (It.Set setting) = setting_place setting
-item_place (It.Input input) = 14
+item_place (It.Input input) = 15
 
 -- the item's line may follow one of place `before`: a set line follows one of a lesser place, and an input any line
 abbrev pub Follows : (before : ℕ) → Item → Type 0

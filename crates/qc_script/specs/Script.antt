@@ -16,6 +16,7 @@
 --     set limit_handshake N  how many packets a Handshake key may seal (2^23)
 --     set limit_failures N   how many packets may fail to open (2^52; RFC 9001, section 6.6)
 --     set idle N        this end's limit on idle time in milliseconds; 0 is none (30000)
+--     set mtud F        whether larger datagrams are looked for: `0` or `1` (1)
 --     set gso F         whether the datagrams of a transmit may stand behind each other: `0`, a transmit has at most one, or `1` (1)
 -- An input line is
 --     datagram T A E H  a datagram H came at time T from the address A with the mark E of congestion
@@ -102,7 +103,8 @@ set_lines s =
     ++ (line_if (codes "set limit_handshake ") decimal s.limit_handshake
     ++ (line_if (codes "set limit_failures ") decimal s.limit_failures
     ++ (line_if (codes "set idle ") decimal s.idle
-    ++ line_if (codes "set gso ") flag_text s.gso))))))))))))
+    ++ (line_if (codes "set mtud ") flag_text s.mtud
+    ++ line_if (codes "set gso ") flag_text s.gso)))))))))))))
 
 -- a seed has 32 bytes
 abbrev pub IsSeed : List ℕ → Type 0
@@ -170,7 +172,7 @@ pub record IsIssued (issued : IssuedCid) : Type 0 where
   pub id : IsId issued.id
   pub reset_token : IsResetToken issued.reset_token
 
--- so is each of these ids
+-- each of these ids is one that a line can give
 abbrev pub AreIssued : List IssuedCid → Type 0
 AreIssued [] = Unit {0}
 AreIssued (issued ∷ ids) = IsIssued issued × AreIssued ids
@@ -220,7 +222,7 @@ IsWithin (MaxStreams now dir count) = (now < 2 ^ 64) × (count < 2 ^ 62)
 IsWithin (SendWindow now size) = (now < 2 ^ 64) × (size < 2 ^ 64)
 IsWithin (ReceiveWindow now size) = (now < 2 ^ 64) × (size < 2 ^ 62)
 
--- so is each of these inputs
+-- the numbers of each of these inputs have their bits
 abbrev pub AllWithin : List Input → Type 0
 AllWithin [] = Unit {0}
 AllWithin (input ∷ inputs) = IsWithin input × AllWithin inputs

@@ -3,7 +3,7 @@
 //! ASCII lines, each ended by LF, fields separated by one space. First come the set lines, in this order: `set side S`,
 //! where S is `client` or `server`, and then at most one each of `set random W`, `set time N`, `set local HEX`,
 //! `set remote HEX`, `set first HEX`, `set addr A`, `set token HEX`, `set secret HEX`, `set limit_initial N`,
-//! `set limit_handshake N`, `set limit_failures N`, `set idle N` and `set gso F`. W is `zero` or the 32 bytes of a seed in hex. An id
+//! `set limit_handshake N`, `set limit_failures N`, `set idle N`, `set mtud F` and `set gso F`. W is `zero` or the 32 bytes of a seed in hex. An id
 //! has at most 20 bytes; on a client the remote one has 8 at least (RFC 9000, section 7.2), and only a server has a first one.
 //! Only a client has a token (RFC 9000, section 8.1). A secret has 5 bytes. A key of the Initial or the Handshake packets may seal as many
 //! packets as its limit says, and as many packets may fail to open as `limit_failures` says (RFC 9001, section 6.6). A

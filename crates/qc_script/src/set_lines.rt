@@ -218,6 +218,16 @@ fn idle_line(digits: &[u8]) -> Option<Setting>
     }
 }
 
+/// What a line sets that says whether larger datagrams are looked for.
+fn mtud_line(field: &[u8]) -> Option<Setting>
+    ensures { (side : Side) → IsSettingRead side (codes "set mtud " ++ field.now) result }
+{
+    match read_flag(field) {
+        Some(allowed) => Some(Setting::Mtud(allowed)),
+        None => None,
+    }
+}
+
 /// What a line sets that says whether the datagrams of a transmit may stand behind each other.
 fn gso_line(field: &[u8]) -> Option<Setting>
     ensures { (side : Side) → IsSettingRead side (codes "set gso " ++ field.now) result }
@@ -234,6 +244,9 @@ fn transport_line(text: &[u8]) -> Option<Setting>
 {
     if let Some(digits) = after_word(text, b"set idle ") {
         return idle_line(digits);
+    }
+    if let Some(field) = after_word(text, b"set mtud ") {
+        return mtud_line(field);
     }
     match after_word(text, b"set gso ") {
         Some(field) => gso_line(field),

@@ -45,6 +45,8 @@ pub struct Settings {
     pub limit_failures: Option<u64>,
     /// This end's limit on idle time in milliseconds; 0 is none (RFC 9000, 10.1).
     pub idle: Option<VarInt>,
+    /// Whether larger datagrams are looked for (RFC 9000, 14.3).
+    pub mtud: Option<bool>,
     /// Whether the datagrams of a transmit may stand behind each other; where they may not, a transmit has at most one.
     pub gso: Option<bool>,
 }
@@ -76,6 +78,8 @@ pub enum Setting {
     LimitFailures(u64),
     /// This end's limit on idle time in milliseconds.
     Idle(VarInt),
+    /// What `Settings::mtud` is.
+    Mtud(bool),
     /// What `Settings::gso` is.
     Gso(bool),
 }
@@ -98,7 +102,8 @@ impl Setting {
             Setting::LimitHandshake(_) => 10,
             Setting::LimitFailures(_) => 11,
             Setting::Idle(_) => 12,
-            Setting::Gso(_) => 13,
+            Setting::Mtud(_) => 13,
+            Setting::Gso(_) => 14,
         }
     }
 }
@@ -122,6 +127,7 @@ impl Settings {
             limit_handshake: None,
             limit_failures: None,
             idle: None,
+            mtud: None,
             gso: None,
         }
     }
@@ -143,6 +149,7 @@ impl Settings {
             Setting::LimitHandshake(packets) => self.limit_handshake = Some(packets),
             Setting::LimitFailures(packets) => self.limit_failures = Some(packets),
             Setting::Idle(limit) => self.idle = Some(limit),
+            Setting::Mtud(allowed) => self.mtud = Some(allowed),
             Setting::Gso(allowed) => self.gso = Some(allowed),
         }
     }

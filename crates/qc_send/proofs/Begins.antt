@@ -9,7 +9,7 @@ use Rattle.qc_header.specs.HeaderSpelling.{header_spelling}
 use Rattle.qc_state.specs.declared.form.Form.{Form}
 use Rattle.qc_state.specs.declared.form.Form.TheVariants as form
 use Rattle.qc_state.specs.declared.transmit.Batch.{Batch}
-use Rattle.qc_state.specs.declared.transmit.TheConstants.{DATAGRAM_SIZE, JOINING_SIZE}
+use Rattle.qc_state.specs.declared.transmit.TheConstants.{JOINING_SIZE}
 use Rattle.qc_send.specs.Joining.{IsBegun, IsRoomy}
 use Rattle.qc_send.proofs.Sizes.{begun_room}
 use Rattle.qc_state.proofs.Batches.{joins_some}
@@ -19,7 +19,7 @@ use Rattle.qc_state.specs.Keys.{has_keys_for, reaches_limit, usage_of}
 use Rattle.qc_state.specs.Moves.{Begin, Skip, Take, state_move, move_to, numbers_move, keys_move, paths_move, setup_move, deeds_move}
 use Rattle.qc_state.specs.Numbers.{next_number, acked_number, coming_number, is_skipped, number_skipped, used_in}
 use Rattle.qc_state.specs.declared.numbers.Numbers.{Numbers}
-use Rattle.qc_state.specs.Sending.{is_past_limit, is_used_up, is_key_used_up, is_token_too_long, header_in, room_of, skipped_after, begun_after, begun_batch, MayBegin, MayStand}
+use Rattle.qc_state.specs.Sending.{is_past_limit, is_used_up, is_key_used_up, is_token_too_long, header_in, room_of, skipped_after, batch_opened, begun_after, begun_batch, MayBegin, MayStand}
 use Rattle.qc_state.specs.Spaces.{is_space}
 use Rattle.qc_state.specs.Types.{Types, Meaning}
 use Rattle.qc_state.specs.View.{View, At, at}
@@ -37,13 +37,13 @@ neither_right true b h = cc
 neither_right false b h = h
 
 -- a number within the limit is below the greatest
-number_low : (number acked : ℕ) → is_past_limit number acked ≡ false → number < 2 ^ 62 - 1
+pub number_low : (number acked : ℕ) → is_past_limit number acked ≡ false → number < 2 ^ 62 - 1
 number_low number acked h =
     let below : nat_le (2 ^ 62 - 1) number ≡ false = neither_left (nat_le (2 ^ 62 - 1) number) (nat_le (2 ^ 31) (number - acked)) h in
     grind (arith, nat_tests)
 
 -- and near the greatest acknowledged one
-number_near : (number acked : ℕ) → is_past_limit number acked ≡ false → number - acked < 2 ^ 31
+pub number_near : (number acked : ℕ) → is_past_limit number acked ≡ false → number - acked < 2 ^ 31
 number_near number acked h =
     let below : nat_le (2 ^ 31) (number - acked) ≡ false = neither_right (nat_le (2 ^ 62 - 1) number) (nat_le (2 ^ 31) (number - acked)) h in
     grind (arith, nat_tests)
@@ -75,16 +75,16 @@ module _ {t : Types} where
   unfolding begun_after skipped_after is_skipped move_to state_move numbers_move paths_move setup_move
   initial_header opens s = refl
 
-  initial_wide : (opens : Bool) (left : ℕ) (s : View t) → DATAGRAM_SIZE ≤ left → nat_lt (room_of DATAGRAM_SIZE s form.Initial) 25 ≡ false → 25 ≤ room_of left (begun_after Initial opens (at s [])).state form.Initial
+  initial_wide : (opens : Bool) (least left : ℕ) (s : View t) → least ≤ left → nat_lt (room_of least s form.Initial) 25 ≡ false → 25 ≤ room_of left (begun_after Initial opens (at s [])).state form.Initial
   unfolding room_of
-  initial_wide opens left s large long = subst (λ (x : Header). 25 ≤ left - 16 - length (header_spelling x 0)) (sym (initial_header opens s)) (grind (arith, nat_tests))
+  initial_wide opens least left s large long = subst (λ (x : Header). 25 ≤ left - 16 - length (header_spelling x 0)) (sym (initial_header opens s)) (grind (arith, nat_tests))
 
-  wide_by : (opens : Bool) (left : ℕ) (s : View t) (f : Form) → (is_space (number_space f) Initial ≡ true → DATAGRAM_SIZE ≤ left) → (is_space (number_space f) Initial && nat_lt (room_of DATAGRAM_SIZE s form.Initial) 25) ≡ false →
+  wide_by : (opens : Bool) (least left : ℕ) (s : View t) (f : Form) → (is_space (number_space f) Initial ≡ true → least ≤ left) → (is_space (number_space f) Initial && nat_lt (room_of least s form.Initial) 25) ≡ false →
       (is_space (number_space f) Initial ≡ false → 25 ≤ room_of left (begun_after (number_space f) opens (at s [])).state f) → 25 ≤ room_of left (begun_after (number_space f) opens (at s [])).state f
-  wide_by opens left s form.Initial large long others = initial_wide opens left s (large refl) long
-  wide_by opens left s form.Handshake large long others = others refl
-  wide_by opens left s form.Early large long others = others refl
-  wide_by opens left s form.OneRtt large long others = others refl
+  wide_by opens least left s form.Initial large long others = initial_wide opens least left s (large refl) long
+  wide_by opens least left s form.Handshake large long others = others refl
+  wide_by opens least left s form.Early large long others = others refl
+  wide_by opens least left s form.OneRtt large long others = others refl
 
   -- what a packet finds that was begun, in numbers
   pub begun_is : (opens : Bool) (m : Meaning t) (time : ℕ) (s : View t) (batch b : Batch) (form : Form) → MayBegin m time s batch form opens → IsRoomy batch (number_space form) opens → b ≡ begun_batch s (number_space form) opens batch → IsBegun b (number_space form)
@@ -96,6 +96,12 @@ module _ {t : Types} where
       joined true place e = cc
       joined false place e = joins_some batch place
 
+  -- datagrams are filled up as they were
+  begun_least : (s : View t) (id : SpaceId) (opens : Bool) (b : Batch) → (begun_batch s id opens b).least ≡ b.least
+  unfolding begun_batch batch_opened
+  begun_least s id true b = refl
+  begun_least s id false b = refl
+
   -- there is room for a close in it
   pub loud_wide : (opens : Bool) (m : Meaning t) (time left room : ℕ) (batch b : Batch) (a : At t) (e : View t) (form : Form) → MayBegin m time a.state batch form opens → IsRoomy batch (number_space form) opens →
       at e a.did ≡ begun_after (number_space form) opens a → b ≡ begun_batch a.state (number_space form) opens batch → left ≡ b.capacity - b.filled → room ≡ room_of left e form →
@@ -104,9 +110,10 @@ module _ {t : Types} where
   loud_wide opens m time left room batch b a e form may roomy begun is_b is_left is_room others =
       let is_e : e ≡ (begun_after (number_space form) opens (at a.state [])).state = begun_state opens a e (number_space form) begun in
       let sizes : IsBegun b (number_space form) = begun_is opens m time a.state batch b form may roomy is_b in
+      let same_least : b.least ≡ batch.least = ap (λ (x : Batch). x.least) is_b ∙ begun_least a.state (number_space form) opens batch in
       let same : room ≡ room_of left (begun_after (number_space form) opens (at a.state [])).state form = is_room ∙ ap (λ (v : View t). room_of left v form) is_e in
       subst (λ (n : ℕ). 25 ≤ n) (sym same)
-      (wide_by opens left a.state form (λ first. subst (λ (n : ℕ). DATAGRAM_SIZE ≤ n) (sym is_left) (sizes.large first)) (unlimited a.state form may.fresh).2
+      (wide_by opens batch.least left a.state form (λ first. omega (arith, is_left, same_least, sizes.large first)) (unlimited batch a.state form may.fresh).2
       (λ other. subst (λ (n : ℕ). 25 ≤ n) same (others other (subst (λ (n : ℕ). JOINING_SIZE ≤ n) (sym is_left) sizes.left))))
 
   -- once a datagram is begun, the next number is the one that was to come
@@ -117,7 +124,7 @@ module _ {t : Types} where
   skip_number Data a true e = refl
   skip_number id a false e = refl
 
-  begun_number : (opens : Bool) (s : View t) (id : SpaceId) → next_number (begun_after id opens (at s [])).state.numbers id ≡ coming_number s.numbers id
+  pub begun_number : (opens : Bool) (s : View t) (id : SpaceId) → next_number (begun_after id opens (at s [])).state.numbers id ≡ coming_number s.numbers id
   unfolding begun_after skipped_after coming_number move_to state_move numbers_move deeds_move
   begun_number opens s id = skip_number id (at (state_move (Begin id opens) s) []) (is_skipped s.numbers id) refl
 
@@ -129,7 +136,7 @@ module _ {t : Types} where
   skip_acked Data a true e = omega arith
   skip_acked id a false e = omega arith
 
-  begun_acked : (opens : Bool) (s : View t) (id : SpaceId) → acked_number s.numbers id ≤ acked_number (begun_after id opens (at s [])).state.numbers id
+  pub begun_acked : (opens : Bool) (s : View t) (id : SpaceId) → acked_number s.numbers id ≤ acked_number (begun_after id opens (at s [])).state.numbers id
   unfolding begun_after skipped_after move_to state_move numbers_move deeds_move
   begun_acked opens s id = skip_acked id (at (state_move (Begin id opens) s) []) (is_skipped s.numbers id) refl
 
@@ -138,7 +145,7 @@ module _ {t : Types} where
   unfolding is_used_up
   loud_near_begun opens m time batch a e form may begun =
       let s : View t = a.state in
-      let near : coming_number s.numbers (number_space form) - acked_number s.numbers (number_space form) < 2 ^ 31 = number_near (coming_number s.numbers (number_space form)) (acked_number s.numbers (number_space form)) (unlimited s form may.fresh).1 in
+      let near : coming_number s.numbers (number_space form) - acked_number s.numbers (number_space form) < 2 ^ 31 = number_near (coming_number s.numbers (number_space form)) (acked_number s.numbers (number_space form)) (unlimited batch s form may.fresh).1 in
       subst (λ (v : View t). next_number v.numbers (number_space form) - acked_number v.numbers (number_space form) < 2 ^ 31) (sym (begun_state opens a e (number_space form) begun)) (omega (arith, near, begun_number opens s (number_space form), begun_acked opens s (number_space form)))
 
   -- so it is once frames were taken
@@ -153,7 +160,7 @@ module _ {t : Types} where
   unfolding is_used_up
   loud_low opens m time batch a e mid form fs may begun is_mid =
       let s : View t = a.state in
-      let low : coming_number s.numbers (number_space form) < 2 ^ 62 - 1 = number_low (coming_number s.numbers (number_space form)) (acked_number s.numbers (number_space form)) (unlimited s form may.fresh).1 in
+      let low : coming_number s.numbers (number_space form) < 2 ^ 62 - 1 = number_low (coming_number s.numbers (number_space form)) (acked_number s.numbers (number_space form)) (unlimited batch s form may.fresh).1 in
       let same : next_number mid.numbers (number_space form) ≡ coming_number s.numbers (number_space form) =
       ap (λ (v : Numbers). next_number v (number_space form)) (ap (λ (x : View t). x.numbers) is_mid ∙ number_kept e form fs) ∙ ap (λ (v : View t). next_number v.numbers (number_space form)) (begun_state opens a e (number_space form) begun) ∙ begun_number opens s (number_space form) in
       subst (λ (n : ℕ). n < 2 ^ 62 - 1) (sym same) low
@@ -182,4 +189,4 @@ module _ {t : Types} where
       reaches_limit 0 (usage_of mid.keys form) ≡ false
   unfolding is_key_used_up
   loud_fresh opens m time batch a e mid form fs may begun is_mid =
-      ap (λ (k : KeyGroup t.H t.P). reaches_limit 0 (usage_of k form)) (same_keys opens a e mid (number_space form) fs begun is_mid) ∙ (unlimited a.state form may.fresh).0
+      ap (λ (k : KeyGroup t.H t.P). reaches_limit 0 (usage_of k form)) (same_keys opens a e mid (number_space form) fs begun is_mid) ∙ (unlimited batch a.state form may.fresh).0

@@ -1,5 +1,6 @@
 -- What a transmit begins with has its turn, or it seals nothing for its cause.
-use Rattle.std.proofs.Common.{◌≡◌, ap, sym, ◌∙◌, refl, subst, Bool, true, false, ◌||◌, ◌&&◌, if◌then◌else◌, Option, Some, None, is_some, not, ℕ, ◌<◌, ◌≤◌, List, [], arith}
+use Rattle.std.proofs.Common.{◌≡◌, ap, sym, ◌∙◌, refl, subst, Bool, true, false, ◌||◌, ◌&&◌, if◌then◌else◌, Option, Some, None, is_some, not, ℕ, ◌<◌, ◌≤◌, arith}
+use Rattle.std.specs.Prelude.{min}
 use Rattle.qc_base.specs.declared.side.SpaceId.{SpaceId}
 use Rattle.qc_base.specs.declared.side.SpaceId.TheVariants.{Initial, Handshake, «Data»}
 use Rattle.qc_send.specs.declared.owing.Turn.{Turn}
@@ -13,18 +14,17 @@ use Rattle.qc_state.specs.declared.transmit.Batch.{Batch}
 use Rattle.qc_state.specs.Forms.{number_space}
 use Rattle.qc_state.specs.Keys.{form_in}
 use Rattle.qc_state.specs.Offers.{path_size}
-use Rattle.qc_state.specs.Paths.{is_blocked_behind}
-use Rattle.qc_state.specs.Sending.{Dies, HasTurn, MayBegin, MayStand, Transmits, is_closed_up, is_in_order, is_whole, most_of, all_eager, batch_begun, first_eager, held_after, held_by, held_in, is_congested, is_eager, is_first_in_turn, is_passed, is_silent, kill_in, limit_in, next_segment, owes, owes_in, paced_until, quiet_by, quiet_of}
+use Rattle.qc_state.specs.declared.paths.Path.{Path}
+use Rattle.qc_state.specs.Paths.{held_size, is_blocked_behind, least_on, most_on}
+use Rattle.qc_state.specs.Sending.{Dies, HasTurn, MayBegin, MayStand, is_closed_up, is_in_order, is_whole, most_of, all_eager, batch_begun, batch_from, first_eager, held_by, held_in, is_congested, is_eager, is_first_in_turn, is_passed, is_silent, kill_in, limit_in, next_segment, owes, owes_in, paced_until, quiet_by, quiet_of}
 use Rattle.qc_state.specs.Types.{Types, Meaning}
-use Rattle.qc_state.specs.View.{View, At}
+use Rattle.qc_state.specs.View.{View}
 use Rattle.qc_state.specs.declared.life.State.{State}
 use Rattle.qc_state.specs.declared.life.State.TheVariants as state
 use Rattle.qc_state.specs.Life.{is_drained, is_open}
 use Rattle.qc_state.specs.declared.life.ConnectionError.{ConnectionError}
-use Rattle.qc_state.specs.Moves.{Say, move_to}
 use Rattle.qc_send.specs.Joining.{IsRoomy, MayTake}
 use Rattle.qc_send.proofs.Sizes.{begun_sized}
-use Rattle.qc_send.proofs.Transmits.{transmits_quiet}
 
 -- a connection that isn't silent has not ended, and is open where it owes no close
 goes_on : (s : State) (owed : Bool) → (is_drained s || (not (is_open s) && not owed)) ≡ false → (is_drained s ≡ false) × (owed ≡ false → is_open s ≡ true)
@@ -134,10 +134,30 @@ most_few : (b : Bool) (asked : ℕ) → asked ≤ 18446744073709551615 → (if b
 most_few true asked h = h
 most_few false asked h = omega arith
 
+-- how many bytes a datagram to a path may have, and up to how many one is filled up
+held_between : (n : ℕ) → (1200 ≤ held_size n) × (held_size n ≤ 16383)
+held_between n = (omega arith, omega arith)
+
+most_enough : {C : Type 0} → (p : Path C) → 1200 ≤ most_on p
+unfolding most_on
+most_enough p = (held_between (if p.validated then p.kept.mtud.current else min p.first_mtu p.kept.mtud.current)).0
+
+most_small : {C : Type 0} → (p : Path C) → most_on p ≤ 16383
+unfolding most_on
+most_small p = (held_between (if p.validated then p.kept.mtud.current else min p.first_mtu p.kept.mtud.current)).1
+
+least_enough : {C : Type 0} → (p : Path C) → 1200 ≤ least_on p
+unfolding least_on
+least_enough p = omega (arith, (held_between p.kept.mtud.least).0, most_enough p)
+
+least_within : {C : Type 0} → (p : Path C) → least_on p ≤ most_on p
+unfolding least_on
+least_within p = omega arith
+
 -- a transmit that begins has no datagram that has to be filled up
-begun_closed : (closing : Bool) (most segment : ℕ) → (is_whole (batch_begun closing most segment) && is_closed_up (batch_begun closing most segment)) ≡ true
+begun_closed : (closing pads : Bool) (most segment least : ℕ) → (is_whole (batch_begun closing pads most segment least) && is_closed_up (batch_begun closing pads most segment least)) ≡ true
 unfolding is_closed_up
-begun_closed closing most segment = refl
+begun_closed closing pads most segment least = refl
 
 module _ {t : Types} where
   -- what it means to begin so
@@ -224,44 +244,44 @@ module _ {t : Types} where
   unfolding turn_of
   turn_is m time s b fresh = turn_by_silence m time s b (is_silent s) fresh refl
 
-  begun_fresh : (s : View t) (b : Batch) (most : ℕ) → b ≡ batch_begun s.waiting.close_owed most (path_size s) → IsFresh s b
-  begun_fresh s b most is = record { closing = ap (λ (x : Batch). x.closing) is; spare = ap (λ (x : Batch). x.worn) is; none = ap (λ (x : Batch). x.space) is }
+  begun_fresh : (s : View t) (b : Batch) (asked : ℕ) → b ≡ batch_from asked s → IsFresh s b
+  begun_fresh s b asked is = record { closing = ap (λ (x : Batch). x.closing) is; spare = ap (λ (x : Batch). x.worn) is; none = ap (λ (x : Batch). x.space) is }
 
-  turn_so : (m : Meaning t) (time most : ℕ) (s : View t) (b : Batch) (turn found : Turn) → b ≡ batch_begun s.waiting.close_owed most (path_size s) → turn ≡ turn_of m time s b → turn ≡ found → IsTurn m time s b found
-  turn_so m time most s b turn found begun is holds = subst (IsTurn m time s b) (sym is ∙ holds) (turn_is m time s b (begun_fresh s b most begun))
+  turn_so : (m : Meaning t) (time asked : ℕ) (s : View t) (b : Batch) (turn found : Turn) → b ≡ batch_from asked s → turn ≡ turn_of m time s b → turn ≡ found → IsTurn m time s b found
+  turn_so m time asked s b turn found begun is holds = subst (IsTurn m time s b) (sym is ∙ holds) (turn_is m time s b (begun_fresh s b asked begun))
 
   -- where it begins with a packet, that one may be taken
   take_by : (m : Meaning t) (time asked : ℕ) (s : View t) (id : SpaceId) → 1 ≤ asked → asked ≤ 18446744073709551615 →
-      HasTurn m s (batch_begun s.waiting.close_owed (most_of s asked) (path_size s)) id × (limit_in m time s (batch_begun s.waiting.close_owed (most_of s asked) (path_size s)) id ≡ None) →
-      MayTake m time s (batch_begun s.waiting.close_owed (most_of s asked) (path_size s)) id true
+      HasTurn m s (batch_from asked s) id × (limit_in m time s (batch_from asked s) id ≡ None) → MayTake m time s (batch_from asked s) id true
   take_by m time asked s id some few h = record {
     turn = h.0;
     place = record { few = most_some s.setup.fixed.segmentation asked some; free = h.1; further = refl };
-    behind = begun_closed s.waiting.close_owed (most_of s asked) (path_size s);
+    behind = begun_closed s.waiting.close_owed s.setup.fixed.pads (most_of s asked) (path_size s) (least_on s.paths.current);
     roomy = record {
-      sized = begun_sized s.waiting.close_owed (most_of s asked) (path_size s) (omega arith) (most_few s.setup.fixed.segmentation asked few);
-      left = omega arith;
-      large = λ e. (refl, omega arith);
+      sized = begun_sized s.waiting.close_owed s.setup.fixed.pads (most_of s asked) (path_size s) (least_on s.paths.current) (most_small s.paths.current) (least_enough s.paths.current) (most_few s.setup.fixed.segmentation asked few);
+      left = omega (arith, most_enough s.paths.current);
+      large = λ e. (refl, least_within s.paths.current);
       bare = λ e. absurd (cc e);
     };
   }
 
-  pub begins_take : (m : Meaning t) (time asked : ℕ) (s : View t) (b : Batch) (turn : Turn) (id : SpaceId) → b ≡ batch_begun s.waiting.close_owed (most_of s asked) (path_size s) → turn ≡ turn_of m time s b → turn ≡ Begins id → 1 ≤ asked → asked ≤ 18446744073709551615 →
+  pub begins_take : (m : Meaning t) (time asked : ℕ) (s : View t) (b : Batch) (turn : Turn) (id : SpaceId) → b ≡ batch_from asked s → turn ≡ turn_of m time s b → turn ≡ Begins id → 1 ≤ asked → asked ≤ 18446744073709551615 →
       MayTake m time s b id true
   begins_take m time asked s b turn id begun is begins some few =
-      let here : IsTurn m time s (batch_begun s.waiting.close_owed (most_of s asked) (path_size s)) (Begins id) = subst (λ (x : Batch). IsTurn m time s x (Begins id)) begun (turn_so m time (most_of s asked) s b turn (Begins id) begun is begins) in
+      let here : IsTurn m time s (batch_from asked s) (Begins id) = subst (λ (x : Batch). IsTurn m time s x (Begins id)) begun (turn_so m time asked s b turn (Begins id) begun is begins) in
       subst (λ (x : Batch). MayTake m time s x id true) (sym begun) (take_by m time asked s id some few here)
 
-  -- a transmit that seals nothing, for a cause
-  pub quiet_sent : (m : Meaning t) (time asked : ℕ) (a mid b : At t) (batch : Batch) (turn : Turn) (quiet : Quiet) (buffer : List ℕ) → batch ≡ batch_begun a.state.waiting.close_owed (most_of a.state asked) (path_size a.state) →
-      turn ≡ turn_of m time a.state batch → turn ≡ Holds quiet → mid ≡ held_after m time quiet batch a → b ≡ move_to (Say quiet) mid → buffer ≡ [] → Transmits m time asked a b None buffer
-  quiet_sent m time asked a mid b batch turn quiet buffer begun is holds held moved empty =
-      transmits_quiet m time asked a mid b batch quiet buffer begun (turn_so m time (most_of a.state asked) a.state batch turn (Holds quiet) begun is holds) held moved empty
+  -- one that seals nothing of what waits has a cause for it
+  pub quiet_cause : (m : Meaning t) (time asked : ℕ) (s : View t) (batch : Batch) (turn : Turn) (quiet : Quiet) → batch ≡ batch_from asked s → turn ≡ turn_of m time s batch → turn ≡ Holds quiet → quiet_of m time s batch ≡ Some quiet
+  quiet_cause m time asked s batch turn quiet begun is holds = turn_so m time asked s batch turn (Holds quiet) begun is holds
+
+  pub begun_none : (asked : ℕ) (s : View t) (batch : Batch) → batch ≡ batch_from asked s → batch.made ≡ 0
+  begun_none asked s batch is = ap (λ (x : Batch). x.made) is
 
   -- ---- a packet of a space
 
   -- the form in which a space seals counts its numbers there
-  pub begins_form : (m : Meaning t) (time : ℕ) (s : View t) (b : Batch) (id : SpaceId) (form : Form) (opens : Bool) (found : Option ConnectionError) → MayTake m time s b id opens → form ≡ form_in s.keys id → found ≡ kill_in s form → found ≡ None →
+  pub begins_form : (m : Meaning t) (time : ℕ) (s : View t) (b : Batch) (id : SpaceId) (form : Form) (opens : Bool) (found : Option ConnectionError) → MayTake m time s b id opens → form ≡ form_in s.keys id → found ≡ kill_in b s form → found ≡ None →
       MayBegin m time s b form opens
   begins_form m time s b id form opens found may is_form is_found none =
       let back : id ≡ number_space form = sym (ap number_space is_form ∙ form_back s.keys id) in
@@ -277,12 +297,12 @@ module _ {t : Types} where
   roomy_form m time s b id form opens may is = subst (λ (x : SpaceId). IsRoomy b x opens) (sym (ap number_space is ∙ form_back s.keys id)) may.roomy
 
   -- where it can't begin, the connection ends
-  pub dies_in : (m : Meaning t) (time : ℕ) (s : View t) (b : Batch) (id : SpaceId) (form : Form) (opens : Bool) (found : Option ConnectionError) (why : ConnectionError) → MayTake m time s b id opens → form ≡ form_in s.keys id → found ≡ kill_in s form → found ≡ Some why →
+  pub dies_in : (m : Meaning t) (time : ℕ) (s : View t) (b : Batch) (id : SpaceId) (form : Form) (opens : Bool) (found : Option ConnectionError) (why : ConnectionError) → MayTake m time s b id opens → form ≡ form_in s.keys id → found ≡ kill_in b s form → found ≡ Some why →
       Dies m time s b why
   dies_in m time s b id form opens found why may is_form is_found kills = record {
     space = id;
     opens = opens;
     turn = may.turn;
     place = may.place;
-    kill = sym (ap (kill_in s) is_form) ∙ sym is_found ∙ kills;
+    kill = sym (ap (kill_in b s) is_form) ∙ sym is_found ∙ kills;
   }

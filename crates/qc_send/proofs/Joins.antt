@@ -8,7 +8,7 @@ use Rattle.qc_send.specs.Joining.{FurtherIs, IsFull, JoiningIs, JoinsIs, LacksIn
 use Rattle.qc_state.specs.declared.deeds.Quiet.{Quiet}
 use Rattle.qc_state.specs.declared.deeds.Quiet.TheVariants.{NothingOwed, Silent, Amplification, Congestion, Pacing, Killed}
 use Rattle.qc_state.specs.declared.transmit.Batch.{Batch}
-use Rattle.qc_state.specs.declared.transmit.TheConstants.{DATAGRAM_SIZE, JOINING_SIZE}
+use Rattle.qc_state.specs.declared.transmit.TheConstants.{JOINING_SIZE}
 use Rattle.qc_state.specs.Acks.{IsLongAck, is_ack_owed}
 use Rattle.qc_state.specs.Keys.{form_in}
 use Rattle.qc_state.specs.Offers.{datagram_fits, wants_sending}
@@ -120,7 +120,7 @@ module _ {t : Types} where
     roomy = record {
       sized = full.sized;
       left = le_holds JOINING_SIZE (next_segment b) (both_right (is_whole b) _ (both_right (not b.worn && nat_lt b.made b.most) _ goes));
-      large = λ e. (refl, lt_fails (next_segment b) DATAGRAM_SIZE (second_fails (is_space id Initial) _ large e));
+      large = λ e. (refl, lt_fails (next_segment b) b.least (second_fails (is_space id Initial) _ large e));
       bare = λ e. absurd (cc e);
     };
   }

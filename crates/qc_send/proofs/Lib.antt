@@ -9,6 +9,7 @@ pub mod Joins
 pub mod Loops
 pub mod Padded
 pub mod Planned
+pub mod Probings
 pub mod Rooms
 pub mod Sealed
 pub mod Seals

@@ -28,7 +28,7 @@ use Rattle.qc_state.specs.Forms.{number_space}
 use Rattle.qc_state.specs.Life.{is_closed}
 use Rattle.qc_state.specs.Moves.{Take, state_move}
 use Rattle.qc_state.specs.Numbers.{next_number}
-use Rattle.qc_state.specs.Sending.{Closes, IsPadded, application_close, close_frame, closing_frame, fills, fills_up, header_in, holds_owed, least_size, packet_size, padding_in, room_of, told_close}
+use Rattle.qc_state.specs.Sending.{Closes, IsPadded, application_close, close_frame, closing_frame, fills, fills_up, header_in, holds_owed, least_size, packet_size, padding_in, room_beside, room_of, told_close, wanted_by, widens}
 use Rattle.qc_state.specs.Spaces.{is_space, space_of}
 use Rattle.qc_state.specs.Types.{Types}
 use Rattle.qc_state.specs.View.{View}
@@ -139,6 +139,20 @@ module _ {t : Types} where
   unfolding padded_to
   padding_in_is s form least fs bare = padding_append fs (replicate (padding_to s form least fs) Padding) ∙ omega (arith, bare, padding_alone (padding_to s form least fs))
 
+  -- so it leaves the room that is beside it
+  pub beside_padded : (s : View t) (form : Form) (room least : ℕ) (fs : List FrameValue) → padding_in fs ≡ 0 → room_beside room (padded_to s form least fs) ≡ room - length (frames_spelling fs)
+  unfolding padded_to
+  beside_padded s form room least fs bare =
+      let n : ℕ = padding_to s form least fs in
+      let whole : length (frames_spelling (fs ++ replicate n Padding)) ≡ length (frames_spelling fs) + n = bytes_append fs (replicate n Padding) ∙ ap (λ (x : ℕ). length (frames_spelling fs) + x) (padding_bytes n) in
+      let count : padding_in (fs ++ replicate n Padding) ≡ n = padding_append fs (replicate n Padding) ∙ omega (arith, bare, padding_alone n) in
+      omega (arith, whole, count)
+
+  -- nor does it change whether a frame elicits an acknowledgement
+  pub elicits_kept : (s : View t) (form : Form) (least : ℕ) (fs : List FrameValue) → list_any elicits (padded_to s form least fs) ≡ list_any elicits fs
+  unfolding padded_to
+  elicits_kept s form least fs = elicits_padded fs (padding_to s form least fs)
+
   -- PADDING doesn't change whether a packet fills up its datagram, nor whether it holds something that is owed
   pub fills_padded : (s : View t) (form : Form) (least : ℕ) (fs : List FrameValue) → fills_up s form (padded_to s form least fs) ≡ fills_up s form fs
   unfolding fills_up padded_to
@@ -167,7 +181,7 @@ module _ {t : Types} where
 
   -- a packet has the PADDING that it is to have
   spares : (next : Option SpaceId) (b : Batch) (s : View t) (form : Form) (nearly : Bool) (least : ℕ) (fs : List FrameValue) → IsBegun b (number_space form) → 25 ≤ room_of (b.capacity - b.filled) s form →
-      least ≡ least_by next (batch_planned s form nearly fs b) b.filled → IsSpare (b.fills || fills_up s form fs) b.made b.filled b.segment (least_size s form) (size_to s form least fs) (padding_to s form least fs)
+      least ≡ least_by next (batch_planned s form nearly fs b) b.filled → IsSpare (wanted_by (b.wide || widens b form) (b.fills || fills_up s form fs) b) b.made b.filled b.segment (least_size s form) (size_to s form least fs) (padding_to s form least fs)
   unfolding batch_planned size_to least_size packet_size
   spares next b s form nearly least fs begun wide is =
       let head : ℕ = length (header_spelling (header_in s form) 0) in
@@ -180,12 +194,12 @@ module _ {t : Types} where
       least ≡ least_by next (batch_planned s form nearly fs b) b.filled → IsPadded b s form (padded_to s form least fs)
   padded_is next b s form nearly least fs begun wide bare is =
       let gs : List FrameValue = padded_to s form least fs in
-      let spare : IsSpare (b.fills || fills_up s form fs) b.made b.filled b.segment (least_size s form) (size_to s form least fs) (padding_to s form least fs) = spares next b s form nearly least fs begun wide is in
-      let filled : IsSpare (b.fills || fills_up s form gs) b.made b.filled b.segment (least_size s form) (size_to s form least fs) (padding_to s form least fs) =
-      subst (λ (x : Bool). IsSpare (b.fills || x) b.made b.filled b.segment (least_size s form) (size_to s form least fs) (padding_to s form least fs)) (sym (fills_padded s form least fs)) spare in
-      let sized : IsSpare (b.fills || fills_up s form gs) b.made b.filled b.segment (least_size s form) (packet_size s form gs) (padding_to s form least fs) =
-      subst (λ (n : ℕ). IsSpare (b.fills || fills_up s form gs) b.made b.filled b.segment (least_size s form) n (padding_to s form least fs)) (sym (padded_size_is s form least fs)) filled in
+      let spare : IsSpare (wanted_by (b.wide || widens b form) (b.fills || fills_up s form fs) b) b.made b.filled b.segment (least_size s form) (size_to s form least fs) (padding_to s form least fs) = spares next b s form nearly least fs begun wide is in
+      let filled : IsSpare (wanted_by (b.wide || widens b form) (b.fills || fills_up s form gs) b) b.made b.filled b.segment (least_size s form) (size_to s form least fs) (padding_to s form least fs) =
+      subst (λ (x : Bool). IsSpare (wanted_by (b.wide || widens b form) (b.fills || x) b) b.made b.filled b.segment (least_size s form) (size_to s form least fs) (padding_to s form least fs)) (sym (fills_padded s form least fs)) spare in
+      let sized : IsSpare (wanted_by (b.wide || widens b form) (b.fills || fills_up s form gs) b) b.made b.filled b.segment (least_size s form) (packet_size s form gs) (padding_to s form least fs) =
+      subst (λ (n : ℕ). IsSpare (wanted_by (b.wide || widens b form) (b.fills || fills_up s form gs) b) b.made b.filled b.segment (least_size s form) n (padding_to s form least fs)) (sym (padded_size_is s form least fs)) filled in
       record {
         enough = subst (λ (n : ℕ). least_size s form ≤ n) (sym (padded_size_is s form least fs)) (size_enough s form least fs);
-        spare = subst (λ (n : ℕ). IsSpare (b.fills || fills_up s form gs) b.made b.filled b.segment (least_size s form) (packet_size s form gs) n) (sym (padding_in_is s form least fs bare)) sized;
+        spare = subst (λ (n : ℕ). IsSpare (wanted_by (b.wide || widens b form) (b.fills || fills_up s form gs) b) b.made b.filled b.segment (least_size s form) (packet_size s form gs) n) (sym (padding_in_is s form least fs bare)) sized;
       }

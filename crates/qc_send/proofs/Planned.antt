@@ -1,5 +1,5 @@
 -- How many bytes a packet needs for itself, and what is known behind it, by the calls that plan it.
-use Rattle.std.proofs.Common.{◌≡◌, ℕ, ◌+◌, ◌-◌, ◌≤◌, List, length, refl, sym, ap, ◌∙◌, subst, Bool, true, false, if◌then◌else◌, Option, arith}
+use Rattle.std.proofs.Common.{◌≡◌, ℕ, ◌+◌, ◌-◌, ◌≤◌, List, length, refl, sym, ap, ◌∙◌, subst, Bool, Option, arith}
 use Rattle.std.specs.Prelude.{max}
 use Rattle.qc_base.specs.declared.side.SpaceId.{SpaceId}
 use Rattle.qc_base.specs.PacketNumber.{number_len, number_of}
@@ -7,37 +7,15 @@ use Rattle.qc_frame.specs.Frame.{FrameValue}
 use Rattle.qc_frame.specs.FrameSpelling.{frames_spelling}
 use Rattle.qc_packet.specs.Building.{dst_cid_of, min_size_of, pn_len}
 use Rattle.qc_send.specs.Filling.{batch_planned, size_to}
-use Rattle.qc_send.specs.Joining.{JoiningIs, evens_out, least_by, least_last}
+use Rattle.qc_send.specs.Joining.{JoiningIs, least_by}
 use Rattle.qc_state.specs.declared.form.Form.{Form}
 use Rattle.qc_state.specs.declared.form.Form.TheVariants.{Initial, Handshake, Early, OneRtt}
 use Rattle.qc_state.specs.declared.transmit.Batch.{Batch}
-use Rattle.qc_state.specs.declared.transmit.TheConstants.{DATAGRAM_SIZE}
 use Rattle.qc_state.specs.Forms.{number_space}
 use Rattle.qc_state.specs.Numbers.{acked_number, next_number}
 use Rattle.qc_state.specs.Sending.{batch_grown, fills_up, header_in, room_of}
 use Rattle.qc_state.specs.Types.{Types}
 use Rattle.qc_state.specs.View.{View}
-
--- what a test chooses
-chosen : (b : Bool) (m n : ℕ) → b ≡ true → (if b then m else n) ≡ m
-chosen true m n h = refl
-chosen false m n h = cc
-
-passed : (b : Bool) (m n : ℕ) → b ≡ false → (if b then m else n) ≡ n
-passed true m n h = cc
-passed false m n h = refl
-
--- how many bytes the last packet of a datagram is to have
-pub least_filled : (b : Batch) (before n : ℕ) → b.fills ≡ true → n ≡ DATAGRAM_SIZE - before → n ≡ least_last b before
-least_filled b before n fills is = is ∙ sym (chosen b.fills (DATAGRAM_SIZE - before) (if evens_out b then b.segment - before else 0) fills)
-
-pub least_even : (b : Batch) (before n : ℕ) (evens : Bool) → b.fills ≡ false → evens ≡ evens_out b → evens ≡ true → n ≡ b.segment - before → n ≡ least_last b before
-least_even b before n evens fills is_evens holds is =
-    is ∙ sym (passed b.fills (DATAGRAM_SIZE - before) (if evens_out b then b.segment - before else 0) fills ∙ chosen (evens_out b) (b.segment - before) 0 (sym is_evens ∙ holds))
-
-pub least_none : (b : Batch) (before : ℕ) (evens : Bool) → b.fills ≡ false → evens ≡ evens_out b → evens ≡ false → ◌≡◌ {A = ℕ} 0 (least_last b before)
-least_none b before evens fills is_evens none =
-    sym (passed b.fills (DATAGRAM_SIZE - before) (if evens_out b then b.segment - before else 0) fills ∙ passed (evens_out b) (b.segment - before) 0 (sym is_evens ∙ none))
 
 -- how many bytes a packet is to have, by what is known behind it
 pub planned_least : (c planned : Batch) (next : Option SpaceId) (before least : ℕ) → c ≡ planned → least ≡ least_by next c before → least ≡ least_by next planned before

@@ -36,7 +36,7 @@ use Rattle.qc_state.specs.Keys.{count_one, has_keys, has_keys_for, form_in, key_
 use Rattle.qc_state.specs.Lower.{packet_flown}
 use Rattle.qc_state.specs.Moves.{Seal, armed_with, keys_move, life_move, lower_move, move_to, numbers_move, paths_move, setup_move, state_move, waiting_move}
 use Rattle.qc_state.specs.Numbers.{acked_number, coming_number, is_skipped, next_number, number_used}
-use Rattle.qc_state.specs.Paths.{path_kept}
+use Rattle.qc_state.specs.Paths.{most_on, path_kept}
 use Rattle.qc_state.specs.Sending.{begun_view, flown_after, header_in, is_last_in, owes_in, room_of, spent_after}
 use Rattle.qc_state.specs.Spaces.{is_space, space_of}
 use Rattle.qc_state.specs.Types.{Types, Meaning}
@@ -129,6 +129,7 @@ module _ {t : Types} where
     pub life : w.life ≡ s.life
     pub remote : w.paths.current.remote ≡ s.paths.current.remote
     pub cid : w.paths.current.remote_cid ≡ s.paths.current.remote_cid
+    pub size : path_size w ≡ path_size s
     pub marks : w.paths.current.kept.sending_ecn ≡ s.paths.current.kept.sending_ecn
     pub fixed : w.setup.fixed ≡ s.setup.fixed
     pub spaces : w.waiting.spaces ≡ s.waiting.spaces
@@ -144,6 +145,7 @@ module _ {t : Types} where
     life = refl;
     remote = refl;
     cid = refl;
+    size = refl;
     marks = refl;
     fixed = refl;
     spaces = sealed_spaces time f n size fs s;
@@ -154,13 +156,14 @@ module _ {t : Types} where
 
   -- spending the pacer's tokens, and setting the loss timer, leave all that
   flown_leaves : (m : Meaning t) (time size : ℕ) (counts : Bool) (f : Form) (n : ℕ) (s : View t) (a : At t) → Leaves f n s a.state → Leaves f n s (flown_after m time size counts a).state
-  unfolding armed_with spent_after move_to state_move numbers_move keys_move life_move paths_move waiting_move setup_move lower_move path_kept
+  unfolding armed_with spent_after move_to state_move numbers_move keys_move life_move paths_move waiting_move setup_move lower_move path_kept most_on
   flown_leaves m time size true f n s a h = record {
     numbers = h.numbers;
     keys = h.keys;
     life = h.life;
     remote = h.remote;
     cid = h.cid;
+    size = h.size;
     marks = h.marks;
     fixed = h.fixed;
     spaces = h.spaces;
@@ -215,7 +218,7 @@ module _ {t : Types} where
   datagram_other f n s w Initial h later = refl
   datagram_other f n s w Handshake h later = refl
   datagram_other f n s w Data h later =
-      let room : short_room (path_size w) w ≡ short_room (path_size s) s = short_other (path_size s) f n s w h (later_apart (number_space f) «Data» later) in
+      let room : short_room (path_size w) w ≡ short_room (path_size s) s = ap (λ (n : ℕ). short_room n w) h.size ∙ short_other (path_size s) f n s w h (later_apart (number_space f) «Data» later) in
       λ i. first_fits (room i) (h.datagrams i).outgoing
 
   -- what they owe

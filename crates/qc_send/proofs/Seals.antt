@@ -1,9 +1,10 @@
 -- A packet that was begun, whose frames were taken and sealed, is one that may follow.
-use Rattle.std.proofs.Common.{◌≡◌, ℕ, ◌+◌, ◌-◌, ◌≤◌, ◌==◌, List, ◌++◌, length, refl, ap, sym, ◌∙◌, subst, Bool, true, false, Option, ◌⊎◌, inl, inr, arith}
+use Rattle.std.proofs.Common.{◌≡◌, ℕ, ◌+◌, ◌-◌, ◌<◌, ◌≤◌, ◌==◌, List, ◌++◌, length, refl, ap, sym, ◌∙◌, subst, Bool, true, false, not, Option, ◌⊎◌, inl, inr, arith}
+use Rattle.std.specs.List.{list_any}
 use Rattle.std.proofs.lemmas.Bool.Decides.{nat_tests}
 use Rattle.qc_base.specs.declared.side.SpaceId.{SpaceId}
 use Rattle.qc_frame.specs.Frame.{FrameValue}
-use Rattle.qc_frame.specs.FrameSpelling.{frames_spelling}
+use Rattle.qc_frame.specs.FrameSpelling.{elicits, frames_spelling}
 use Rattle.qc_send.specs.Filling.{batch_planned, padded_to, padding_to, size_to}
 use Rattle.qc_send.specs.Joining.{IsBegun, IsRoomy, least_by}
 use Rattle.qc_send.specs.Taking.{TakenNow}
@@ -14,12 +15,14 @@ use Rattle.qc_state.specs.declared.transmit.Batch.{Batch}
 use Rattle.qc_state.specs.Forms.{number_space}
 use Rattle.qc_state.specs.Moves.{Seal, Take, move_to, state_move}
 use Rattle.qc_state.specs.Numbers.{next_number}
-use Rattle.qc_state.specs.Sending.{Carries, Going, IsPadded, LacksAckRoom, MayBegin, MayFollow, SendsOne, batch_grown, batch_opened, begun_after, begun_batch, begun_view, fills_up, flown_after, going, holds_owed, is_flown, is_key_nearly_used_up, packet_after, packet_bytes, packet_size, padding_in, room_in, room_of, sealed_in}
+use Rattle.qc_state.specs.Offers.{offers_in}
+use Rattle.qc_state.specs.Spaces.{space_of}
+use Rattle.qc_state.specs.Sending.{Carries, Going, IsPadded, LacksAckRoom, MayBegin, MayFollow, SendsOne, batch_grown, batch_opened, begun_after, begun_batch, begun_view, fills_up, flown_after, going, holds_owed, is_flown, is_key_nearly_used_up, packet_after, packet_bytes, packet_size, padding_in, room_beside, room_in, room_of, sealed_in}
 use Rattle.qc_state.specs.Types.{Types, Meaning}
 use Rattle.qc_state.specs.View.{View, At, at}
 use Rattle.qc_send.proofs.Begins.{begun_is, begun_state}
 use Rattle.qc_send.proofs.Fits.{now_fits, room_holds}
-use Rattle.qc_send.proofs.Padded.{fills_first, owed_padded, padded_is, padded_size_is, padding_in_is, size_parts, taken_bare, least_near}
+use Rattle.qc_send.proofs.Padded.{beside_padded, elicits_kept, fills_first, owed_padded, padded_is, padded_size_is, padding_in_is, size_parts, taken_bare, least_near}
 use Rattle.qc_send.proofs.Sizes.{least_fits, size_fits}
 use Rattle.qc_send.proofs.Takes.{bytes_kept, fills_kept, number_kept, padded_kept, padding_kept, room_kept, sealed_now, size_kept, size_to_kept, take_padded}
 use Rattle.qc_send.proofs.Waits.{taken_owed, taken_wait}
@@ -46,10 +49,12 @@ module _ {t : Types} where
   begun_closing s id opens b c is = ap (λ (x : Batch). x.closing) is ∙ opened_closing opens _ b
 
   -- what a packet carries, by the view and the batch once it was begun
-  record IsCarried (closing : Bool) (made time : ℕ) (v : View t) (c : Batch) (form : Form) (gs : List FrameValue) : Type 0 where
+  record IsCarried (closing due : Bool) (made time : ℕ) (v : View t) (c : Batch) (form : Form) (gs : List FrameValue) : Type 0 where
     sized : c.capacity ≤ 65527
     carries : Carries closing time v form (room_in c v form) gs
     holds : closing ≡ false → (holds_owed v (number_space form) gs ≡ true) ⊎ ((made ≡ 0) × LacksAckRoom time v (number_space form) (room_in c v form))
+    full : closing ≡ false → 64 ≤ room_beside (room_in c v form) gs → offers_in (state_move (Take (number_space form) gs) v) (number_space form) ≡ false
+    probes : closing ≡ false → due ≡ true → (list_any elicits gs ≡ true) ⊎ (room_beside (room_in c v form) gs < 64)
     padded : IsPadded c v form gs
     fits : c.filled + packet_size v form gs ≤ c.capacity
 
@@ -70,6 +75,17 @@ module _ {t : Types} where
           (holds_owed v (number_space form) (padded_to v form least fs) ≡ true) ⊎ ((made ≡ 0) × LacksAckRoom time v (number_space form) room)
       by_owed (inl held) = inl (owed_padded v form least (number_space form) fs held)
       by_owed (inr lacks) = inr (first_made made first is_first lacks.0, lacks.1)
+
+  -- PADDING behind what was taken leaves whether it is full, and answers a probe
+  full_padded : (v : View t) (form : Form) (room least : ℕ) (fs : List FrameValue) → padding_in fs ≡ 0 → (64 ≤ room - length (frames_spelling fs) → offers_in (state_move (Take (number_space form) fs) v) (number_space form) ≡ false) →
+      64 ≤ room_beside room (padded_to v form least fs) → offers_in (state_move (Take (number_space form) (padded_to v form least fs)) v) (number_space form) ≡ false
+  full_padded v form room least fs bare full enough =
+      ap (λ (x : View t). offers_in x (number_space form)) (take_padded form least fs v) ∙ full (subst (λ (n : ℕ). 64 ≤ n) (beside_padded v form room least fs bare) enough)
+
+  probes_padded : (v : View t) (form : Form) (room least : ℕ) (fs : List FrameValue) → padding_in fs ≡ 0 → (list_any elicits fs ≡ true) ⊎ (room - length (frames_spelling fs) < 64) →
+      (list_any elicits (padded_to v form least fs) ≡ true) ⊎ (room_beside room (padded_to v form least fs) < 64)
+  probes_padded v form room least fs bare (inl some) = inl (elicits_kept v form least fs ∙ some)
+  probes_padded v form room least fs bare (inr few) = inr (subst (λ (n : ℕ). n < 64) (sym (beside_padded v form room least fs bare)) few)
 
   -- the packet has room
   pub packet_fits : (next : Option SpaceId) (c : Batch) (v : View t) (form : Form) (nearly : Bool) (least : ℕ) (fs : List FrameValue) → IsBegun c (number_space form) → 25 ≤ room_of (c.capacity - c.filled) v form →
@@ -93,28 +109,43 @@ module _ {t : Types} where
       omega (arith, is, is_left, least_fits next c (number_space form) form (next_number v.numbers (number_space form)) (size_to v form 0 fs) (fills_up v form fs) nearly begun (fills_first v form fs))
 
   -- so it is carried
-  is_carried : (next : Option SpaceId) (closing first nearly : Bool) (made time room least : ℕ) (v : View t) (c : Batch) (form : Form) (fs : List FrameValue) → IsBegun c (number_space form) → first ≡ (made == 0) →
-      room ≡ room_of (c.capacity - c.filled) v form → 25 ≤ room → TakenNow closing first time v (number_space form) room fs → least ≡ least_by next (batch_planned v form nearly fs c) c.filled →
-      IsCarried closing made time v c form (padded_to v form least fs)
+  is_carried : (next : Option SpaceId) (closing first due nearly : Bool) (made time room least : ℕ) (v : View t) (c : Batch) (form : Form) (fs : List FrameValue) → IsBegun c (number_space form) → first ≡ (made == 0) →
+      room ≡ room_of (c.capacity - c.filled) v form → 25 ≤ room → TakenNow closing first time v (number_space form) room fs →
+      (closing ≡ false → 64 ≤ room - length (frames_spelling fs) → offers_in (state_move (Take (number_space form) fs) v) (number_space form) ≡ false) →
+      (closing ≡ false → due ≡ true → (list_any elicits fs ≡ true) ⊎ (room - length (frames_spelling fs) < 64)) → least ≡ least_by next (batch_planned v form nearly fs c) c.filled →
+      IsCarried closing due made time v c form (padded_to v form least fs)
   unfolding room_in
-  is_carried next closing first nearly made time room least v c form fs begun is_first is_room wide taken is =
+  is_carried next closing first due nearly made time room least v c form fs begun is_first is_room wide taken full probes is =
       let here : TakenNow closing first time v (number_space form) (room_of (c.capacity - c.filled) v form) fs = subst (λ (n : ℕ). TakenNow closing first time v (number_space form) n fs) is_room taken in
       let broad : 25 ≤ room_of (c.capacity - c.filled) v form = subst (λ (n : ℕ). 25 ≤ n) is_room wide in
+      let bare : padding_in fs ≡ 0 = taken_bare closing first time v (number_space form) room fs taken in
       record {
         sized = omega (arith, begun.sized.within, begun.sized.small);
         carries = taken_carries closing first time v form (room_of (c.capacity - c.filled) v form) least fs here;
         holds = taken_holds closing first made time v form (room_of (c.capacity - c.filled) v form) least fs is_first here;
+        full = λ free enough. full_padded v form room least fs bare (full free) (subst (λ (n : ℕ). 64 ≤ room_beside n (padded_to v form least fs)) (sym is_room) enough);
+        probes = λ free owed. subst (λ (n : ℕ). (list_any elicits (padded_to v form least fs) ≡ true) ⊎ (room_beside n (padded_to v form least fs) < 64)) is_room (probes_padded v form room least fs bare (probes free owed));
         padded = padded_is next c v form nearly least fs begun broad (taken_bare closing first time v (number_space form) (room_of (c.capacity - c.filled) v form) fs here) is;
         fits = packet_fits next c v form nearly least fs begun broad (now_fits closing first time v (number_space form) (room_of (c.capacity - c.filled) v form) fs here broad) is;
       }
 
   -- a packet may follow that may be begun, and is carried
-  may_follow : (m : Meaning t) (time : ℕ) (s v : View t) (b c : Batch) (form : Form) (opens : Bool) (gs : List FrameValue) → MayBegin m time s b form opens → v ≡ begun_view s (number_space form) opens →
-      c ≡ begun_batch s (number_space form) opens b → IsCarried b.closing b.made time v c form gs → MayFollow m time s b (record { form = form; opens = opens; frames = gs })
-  may_follow m time s v b c form opens gs may is_v is_c carried =
-      let here : IsCarried b.closing b.made time (begun_view s (number_space form) opens) (begun_batch s (number_space form) opens b) form gs =
-      subst (λ (x : Batch). IsCarried b.closing b.made time (begun_view s (number_space form) opens) x form gs) is_c (subst (λ (x : View t). IsCarried b.closing b.made time x c form gs) is_v carried) in
-      record { begins = may; sized = here.sized; carries = here.carries; holds = here.holds; padded = here.padded; fits = here.fits }
+  may_follow : (m : Meaning t) (time : ℕ) (s v : View t) (b c : Batch) (form : Form) (opens due : Bool) (gs : List FrameValue) → MayBegin m time s b form opens → v ≡ begun_view s (number_space form) opens →
+      c ≡ begun_batch s (number_space form) opens b → due ≡ not ((space_of s.waiting.spaces (number_space form)).probes == 0) → IsCarried b.closing due b.made time v c form gs →
+      MayFollow m time s b (record { form = form; opens = opens; frames = gs })
+  may_follow m time s v b c form opens due gs may is_v is_c is_due carried =
+      let here : IsCarried b.closing due b.made time (begun_view s (number_space form) opens) (begun_batch s (number_space form) opens b) form gs =
+      subst (λ (x : Batch). IsCarried b.closing due b.made time (begun_view s (number_space form) opens) x form gs) is_c (subst (λ (x : View t). IsCarried b.closing due b.made time x c form gs) is_v carried) in
+      record {
+        begins = may;
+        sized = here.sized;
+        carries = here.carries;
+        holds = here.holds;
+        full = here.full;
+        probes = λ free owed. here.probes free (is_due ∙ ap not owed);
+        padded = here.padded;
+        fits = here.fits;
+      }
 
   -- what a packet leaves, by the view once it was begun
   leads_by : (m : Meaning t) (time : ℕ) (g : Going t) (e : View t) (form : Form) (opens : Bool) (gs : List FrameValue) (f : At t) (batch : Batch) (buffer : List ℕ) → at e g.now.did ≡ begun_after (number_space form) opens g.now →
@@ -138,15 +169,18 @@ module _ {t : Types} where
       λ i. batch_grown form (next_number (numbers i) (number_space form)) (size i) 0 (fill i) nearly c
 
   -- the packet is one that may follow: from what the calls say that begin it, take the frames, plan it, seal it, and count it
-  pub seals_taken : (opens first nearly fills counts : Bool) (m : Meaning t) (time : ℕ) (form : Form) (g : Going t) (e mid : View t) (b f : At t) (c batch : Batch) (buffer : List ℕ) (next : Option SpaceId)
-      (left room least number size padding : ℕ) (fs : List FrameValue) → first ≡ (g.batch.made == 0) → nearly ≡ is_key_nearly_used_up g.now.state form → MayBegin m time g.now.state g.batch form opens → IsRoomy g.batch (number_space form) opens →
+  pub seals_taken : (opens first due nearly fills counts : Bool) (m : Meaning t) (time : ℕ) (form : Form) (g : Going t) (e mid : View t) (b f : At t) (c batch : Batch) (buffer : List ℕ) (next : Option SpaceId)
+      (left room least number size padding : ℕ) (fs : List FrameValue) → first ≡ (g.batch.made == 0) → due ≡ not ((space_of g.now.state.waiting.spaces (number_space form)).probes == 0) →
+      nearly ≡ is_key_nearly_used_up g.now.state form → MayBegin m time g.now.state g.batch form opens → IsRoomy g.batch (number_space form) opens →
       at e g.now.did ≡ begun_after (number_space form) opens g.now → c ≡ begun_batch g.now.state (number_space form) opens g.batch → left ≡ c.capacity - c.filled → room ≡ room_of left e form → 25 ≤ room →
-      number ≡ next_number e.numbers (number_space form) → TakenNow c.closing first time e (number_space form) room fs → mid ≡ state_move (Take (number_space form) fs) e → least ≡ least_by next (batch_planned mid form nearly fs c) c.filled →
+      number ≡ next_number e.numbers (number_space form) → TakenNow c.closing first time e (number_space form) room fs →
+      (c.closing ≡ false → 64 ≤ room - length (frames_spelling fs) → offers_in mid (number_space form) ≡ false) → (c.closing ≡ false → due ≡ true → (list_any elicits fs ≡ true) ⊎ (room - length (frames_spelling fs) < 64)) →
+      mid ≡ state_move (Take (number_space form) fs) e → least ≡ least_by next (batch_planned mid form nearly fs c) c.filled →
       b ≡ move_to (Seal time form (next_number mid.numbers (number_space form)) (packet_size mid form (padded_to mid form least fs)) (padded_to mid form least fs)) (at mid g.now.did) →
       buffer ≡ g.out ++ packet_bytes m mid form (padded_to mid form least fs) → size ≡ packet_size mid form (padded_to mid form least fs) → padding ≡ padding_to mid form least fs → fills ≡ fills_up mid form (padded_to mid form least fs) →
       counts ≡ is_flown mid (padded_to mid form least fs) → f ≡ flown_after m time size counts b → batch ≡ batch_grown form number size padding fills nearly c → SendsOne m time g (going f batch buffer)
   unfolding begun_view
-  seals_taken opens first nearly fills counts m time form g e mid b f c batch buffer next left room least number size padding fs is_first is_nearly may roomy begun is_c is_left is_room wide is_number taken is_mid is_least is_b is_buffer
+  seals_taken opens first due nearly fills counts m time form g e mid b f c batch buffer next left room least number size padding fs is_first is_due is_nearly may roomy begun is_c is_left is_room wide is_number taken full probes is_mid is_least is_b is_buffer
       is_size is_padding is_fills is_counts is_f is_batch =
       let id : SpaceId = number_space form in
       let ds : List Did = g.now.did in
@@ -168,13 +202,15 @@ module _ {t : Types} where
       let planned : least ≡ least_by next (batch_planned e form nearly fs c) c.filled =
       is_least ∙ ap (λ (x : Batch). least_by next x c.filled) (ap (λ (v : View t). batch_planned v form nearly fs c) is_mid ∙ planned_kept e form nearly fs fs c) in
       let room_e : room ≡ room_of (c.capacity - c.filled) e form = is_room ∙ ap (λ (n : ℕ). room_of n e form) is_left in
-      let carried : IsCarried c.closing g.batch.made time e c form gs =
-      is_carried next c.closing first nearly g.batch.made time room least e c form fs (begun_is opens m time g.now.state g.batch c form may roomy is_c) is_first room_e wide taken planned in
+      let filled_up : c.closing ≡ false → 64 ≤ room - length (frames_spelling fs) → offers_in (state_move (Take id fs) e) id ≡ false =
+      λ free enough. subst (λ (v : View t). offers_in v id ≡ false) is_mid (full free enough) in
+      let carried : IsCarried c.closing due g.batch.made time e c form gs =
+      is_carried next c.closing first due nearly g.batch.made time room least e c form fs (begun_is opens m time g.now.state g.batch c form may roomy is_c) is_first room_e wide taken filled_up probes planned in
       let grown : batch ≡ batch_grown form (next_number e.numbers id) (packet_size e form gs) (padding_in gs) (fills_up e form gs) (is_key_nearly_used_up g.now.state form) (begun_batch g.now.state id opens g.batch) =
       is_batch ∙ (λ i. batch_grown form (is_number i) ((is_size ∙ size_e) i) (padding_e i) (fills_e i) (is_nearly i) (is_c i)) in
       record {
         packet = record { form = form; opens = opens; frames = gs };
-        may = may_follow m time g.now.state e g.batch c form opens gs may (begun_state opens g.now e id begun) is_c
-            (subst (λ (x : Bool). IsCarried x g.batch.made time e c form gs) (begun_closing g.now.state id opens g.batch c is_c) carried);
+        may = may_follow m time g.now.state e g.batch c form opens due gs may (begun_state opens g.now e id begun) is_c is_due
+            (subst (λ (x : Bool). IsCarried x due g.batch.made time e c form gs) (begun_closing g.now.state id opens g.batch c is_c) carried);
         leads = leads_by m time g e form opens gs f batch buffer begun now grown (is_buffer ∙ ap (λ (xs : List ℕ). g.out ++ xs) bytes_e);
       }

@@ -8,9 +8,9 @@ use Rattle.qc_base.specs.Time.{plus}
 use Rattle.qc_send.specs.Joining.{IsBegun, IsRoomy, IsSized, evens_out, is_later, joins_more, least_by, made_with, packets_from, padding_before}
 use Rattle.qc_state.specs.declared.form.Form.{Form}
 use Rattle.qc_state.specs.declared.transmit.Batch.{Batch}
-use Rattle.qc_state.specs.declared.transmit.TheConstants.{DATAGRAM_SIZE, JOINING_SIZE}
+use Rattle.qc_state.specs.declared.transmit.TheConstants.{JOINING_SIZE}
 use Rattle.qc_state.specs.Forms.{is_one_rtt}
-use Rattle.qc_state.specs.Sending.{batch_begun, batch_grown, batch_opened, is_closed_up, is_done, is_in_order, is_last_in, next_segment, takes_another}
+use Rattle.qc_state.specs.Sending.{batch_begun, batch_grown, batch_opened, is_closed_up, is_done, is_in_order, is_last_in, next_segment, takes_another, wanted_by, wanted_size, widens}
 use Rattle.qc_state.specs.Spaces.{is_space}
 
 -- ---- tests
@@ -40,17 +40,17 @@ none_right false b h = h
 
 -- ---- a transmit begins
 
-pub begun_sized : (closing : Bool) (most segment : ℕ) → segment ≤ DATAGRAM_SIZE → most ≤ 18446744073709551615 → IsSized (batch_begun closing most segment)
-begun_sized closing most segment small few = record { within = omega arith; small = small; fits = omega arith; large = λ e. absurd (cc e); most = few }
+pub begun_sized : (closing pads : Bool) (most segment least : ℕ) → segment ≤ 16383 → 1200 ≤ least → most ≤ 18446744073709551615 → IsSized (batch_begun closing pads most segment least)
+begun_sized closing pads most segment least small enough few = record { within = omega arith; small = small; least = enough; fits = omega arith; large = λ e. absurd (cc e); most = few }
 
 -- ---- a packet is begun
 
 -- the next datagram has no more bytes than others
-next_by : (one : Bool) (filled segment : ℕ) → filled ≤ DATAGRAM_SIZE → segment ≤ DATAGRAM_SIZE → (if one then filled else segment) ≤ DATAGRAM_SIZE
+next_by : (one : Bool) (filled segment : ℕ) → filled ≤ 16383 → segment ≤ 16383 → (if one then filled else segment) ≤ 16383
 next_by true filled segment f s = f
 next_by false filled segment f s = s
 
-next_small : (b : Batch) → IsSized b → next_segment b ≤ DATAGRAM_SIZE
+next_small : (b : Batch) → IsSized b → next_segment b ≤ 16383
 next_small b sized = next_by (b.made == 1) b.filled b.segment (omega (arith, sized.fits, sized.within, sized.small)) sized.small
 
 -- there is room once it is begun, as there was before
@@ -58,19 +58,19 @@ opened_room : (b : Batch) (id : SpaceId) (probes : Bool) → IsRoomy b id true �
 unfolding batch_opened
 opened_room b id probes roomy = by_size probes (next_segment b) (next_small b roomy.sized) roomy.left (λ e. (roomy.large e).1)
   where
-    by_size : (probes : Bool) (n : ℕ) → n ≤ DATAGRAM_SIZE → JOINING_SIZE ≤ n → (is_space id Initial ≡ true → DATAGRAM_SIZE ≤ n) →
-        IsBegun (record b { made = plus b.made 1; segment = n; capacity = if probes then min DATAGRAM_SIZE n else n; filled = 0; padding = 0; short = false; fills = false }) id
+    by_size : (probes : Bool) (n : ℕ) → n ≤ 16383 → JOINING_SIZE ≤ n → (is_space id Initial ≡ true → b.least ≤ n) →
+        IsBegun (record b { made = plus b.made 1; segment = n; capacity = if probes then min b.least n else n; filled = 0; padding = 0; short = false; fills = false; wide = false }) id
     by_size true n small wide large = record {
-      sized = record { within = omega arith; small = small; fits = omega arith; large = λ e. absurd (cc e); most = roomy.sized.most };
+      sized = record { within = omega arith; small = small; least = roomy.sized.least; fits = omega arith; large = λ e. absurd (cc e); most = roomy.sized.most };
       some = omega arith;
-      left = omega (arith, wide);
+      left = omega (arith, wide, roomy.sized.least);
       large = λ e. omega (arith, large e);
       bare = omega arith;
     }
     by_size false n small wide large = record {
-      sized = record { within = omega arith; small = small; fits = omega arith; large = λ e. absurd (cc e); most = roomy.sized.most };
+      sized = record { within = omega arith; small = small; least = roomy.sized.least; fits = omega arith; large = λ e. absurd (cc e); most = roomy.sized.most };
       some = omega arith;
-      left = omega (arith, wide);
+      left = omega (arith, wide, roomy.sized.least);
       large = λ e. omega (arith, large e);
       bare = omega arith;
     }
@@ -111,19 +111,28 @@ le_true : (m n : ℕ) → m ≤ n → nat_le m n ≡ true
 le_true m n h = grind (arith, nat_tests)
 
 -- a datagram that is to be filled up has the bytes for it
-either_large : (b : Batch) (id : SpaceId) (f : Bool) → IsBegun b id → (f ≡ true → is_space id Initial ≡ true) → (b.fills || f) ≡ true → DATAGRAM_SIZE ≤ b.capacity
+either_large : (b : Batch) (id : SpaceId) (f : Bool) → IsBegun b id → (f ≡ true → is_space id Initial ≡ true) → (b.fills || f) ≡ true → b.least ≤ b.capacity
 either_large b id f begun first h = by_fills b.fills refl h
   where
-    by_fills : (x : Bool) → b.fills ≡ x → (x || f) ≡ true → DATAGRAM_SIZE ≤ b.capacity
+    by_fills : (x : Bool) → b.fills ≡ x → (x || f) ≡ true → b.least ≤ b.capacity
     by_fills true e h = begun.sized.large e
     by_fills false e h = omega (arith, begun.large (first h))
 
+-- so has one that is to have the size of the others
+wanted_fits : (wide fills : Bool) (b : Batch) → (fills ≡ true → b.least ≤ b.capacity) → wanted_by wide fills b ≤ b.capacity
+wanted_fits wide fills b large = by_test (wide && nat_le b.segment b.capacity) fills refl large
+  where
+    by_test : (x f : Bool) → (wide && nat_le b.segment b.capacity) ≡ x → (f ≡ true → b.least ≤ b.capacity) → (if x then b.segment else if f then b.least else 0) ≤ b.capacity
+    by_test true f e large = le_holds b.segment b.capacity (both_right wide _ e)
+    by_test false true e large = large refl
+    by_test false false e large = omega arith
+
 -- there is room for so many bytes as the packet is to have
-least_tests : (fills evens : Bool) (before capacity segment : ℕ) → (fills ≡ true → DATAGRAM_SIZE ≤ capacity) → (evens ≡ true → segment ≤ capacity) →
-    (if fills then DATAGRAM_SIZE - before else if evens then segment - before else 0) ≤ capacity - before
-least_tests true evens before capacity segment large even = omega (arith, large refl)
-least_tests false true before capacity segment large even = omega (arith, even refl)
-least_tests false false before capacity segment large even = omega arith
+least_tests : (wants evens : Bool) (wanted before capacity segment : ℕ) → wanted ≤ capacity → (evens ≡ true → segment ≤ capacity) →
+    (if wants then wanted - before else if evens then segment - before else 0) ≤ capacity - before
+least_tests true evens wanted before capacity segment large even = omega (arith, large)
+least_tests false true wanted before capacity segment large even = omega (arith, even refl)
+least_tests false false wanted before capacity segment large even = omega arith
 
 evens_fit : (b : Batch) → evens_out b ≡ true → b.segment ≤ b.capacity
 evens_fit b h = le_holds b.segment b.capacity (both_right (nat_le (b.segment - b.filled) 16) _ (both_right (nat_lt 1 b.made) _ h))
@@ -140,38 +149,37 @@ unfolding batch_grown
 least_fits (Some other) b id form number n f nearly begun first = omega arith
 least_fits None b id form number n f nearly begun first =
     let c : Batch = batch_grown form number n 0 f nearly b in
-    least_tests (b.fills || f) (evens_out c) b.filled b.capacity b.segment (either_large b id f begun first) (evens_fit c)
+    least_tests (nat_lt 0 (wanted_size c)) (evens_out c) (wanted_size c) b.filled b.capacity b.segment (wanted_fits (b.wide || widens b form) (b.fills || f) b (either_large b id f begun first)) (evens_fit c)
 
 -- what PADDING a packet of so many bytes has, in numbers
-abbrev pub IsSpare : (fills : Bool) → (made before segment least size padding : ℕ) → Type 0
-IsSpare fills made before segment least size padding =
-    (padding ≡ 0) ⊎ ((size ≡ least) ⊎ (((fills ≡ true) × (before + size ≡ DATAGRAM_SIZE)) ⊎ ((1 < made) × (padding ≤ 16) × (before + size ≡ segment))))
+abbrev pub IsSpare : (wanted made before segment least size padding : ℕ) → Type 0
+IsSpare wanted made before segment least size padding =
+    (padding ≡ 0) ⊎ ((size ≡ least) ⊎ ((before + size ≡ wanted) ⊎ ((1 < made) × (padding ≤ 16) × (before + size ≡ segment))))
 
 -- what it needs for itself
-spare_own : (fills : Bool) (made before segment least plain size padding : ℕ) → size ≡ max (max least 0) plain → padding ≡ size - plain → IsSpare fills made before segment least size padding
-spare_own fills made before segment least plain size padding is pads = by_test (nat_le least plain) refl
+spare_own : (wanted made before segment least plain size padding : ℕ) → size ≡ max (max least 0) plain → padding ≡ size - plain → IsSpare wanted made before segment least size padding
+spare_own wanted made before segment least plain size padding is pads = by_test (nat_le least plain) refl
   where
-    by_test : (b : Bool) → nat_le least plain ≡ b → IsSpare fills made before segment least size padding
+    by_test : (b : Bool) → nat_le least plain ≡ b → IsSpare wanted made before segment least size padding
     by_test true e = inl (omega (arith, is, pads, le_holds least plain e))
     by_test false e = inr (inl (omega (arith, is, le_fails least plain e)))
 
 -- what fills up its datagram
-spare_filled : (fills : Bool) (made before segment least plain size padding : ℕ) → fills ≡ true → before ≤ DATAGRAM_SIZE → size ≡ max (max least (DATAGRAM_SIZE - before)) plain → padding ≡ size - plain →
-    IsSpare fills made before segment least size padding
-spare_filled fills made before segment least plain size padding holds small is pads = by_test (nat_le (DATAGRAM_SIZE - before) (max least plain)) refl
+spare_filled : (wanted made before segment least plain size padding : ℕ) → size ≡ max (max least (wanted - before)) plain → padding ≡ size - plain → IsSpare wanted made before segment least size padding
+spare_filled wanted made before segment least plain size padding is pads = by_test (nat_le (wanted - before) (max least plain)) refl
   where
-    by_test : (b : Bool) → nat_le (DATAGRAM_SIZE - before) (max least plain) ≡ b → IsSpare fills made before segment least size padding
-    by_test true e = spare_own fills made before segment least plain size padding (omega (arith, is, le_holds (DATAGRAM_SIZE - before) (max least plain) e)) pads
-    by_test false e = inr (inr (inl (holds, omega (arith, is, small, le_fails (DATAGRAM_SIZE - before) (max least plain) e))))
+    by_test : (b : Bool) → nat_le (wanted - before) (max least plain) ≡ b → IsSpare wanted made before segment least size padding
+    by_test true e = spare_own wanted made before segment least plain size padding (omega (arith, is, le_holds (wanted - before) (max least plain) e)) pads
+    by_test false e = inr (inr (inl (omega (arith, is, le_fails (wanted - before) (max least plain) e))))
 
 -- what gives it the size of those before it: a packet that needs PADDING for itself leaves more than 16 bytes behind it
-spare_even : (fills : Bool) (made before capacity segment least head frames size padding : ℕ) → 1 < made → capacity ≤ segment → segment ≤ DATAGRAM_SIZE → least ≤ head + 22 → head + 41 ≤ capacity - before →
+spare_even : (wanted made before capacity segment least head frames size padding : ℕ) → 1 < made → capacity ≤ segment → segment ≤ 16383 → least ≤ head + 22 → head + 41 ≤ capacity - before →
     segment - plus before (max (max least 0) (head + frames + 16)) ≤ 16 → size ≡ max (max least (segment - before)) (head + frames + 16) → padding ≡ size - (head + frames + 16) →
-    IsSpare fills made before segment least size padding
-spare_even fills made before capacity segment least head frames size padding later within small few wide near is pads = by_test (nat_le (segment - before) (max least (head + frames + 16))) refl
+    IsSpare wanted made before segment least size padding
+spare_even wanted made before capacity segment least head frames size padding later within small few wide near is pads = by_test (nat_le (segment - before) (max least (head + frames + 16))) refl
   where
-    by_test : (b : Bool) → nat_le (segment - before) (max least (head + frames + 16)) ≡ b → IsSpare fills made before segment least size padding
-    by_test true e = spare_own fills made before segment least (head + frames + 16) size padding (omega (arith, is, le_holds (segment - before) (max least (head + frames + 16)) e)) pads
+    by_test : (b : Bool) → nat_le (segment - before) (max least (head + frames + 16)) ≡ b → IsSpare wanted made before segment least size padding
+    by_test true e = spare_own wanted made before segment least (head + frames + 16) size padding (omega (arith, is, le_holds (segment - before) (max least (head + frames + 16)) e)) pads
     by_test false e =
         let over : max least (head + frames + 16) < segment - before = le_fails (segment - before) (max least (head + frames + 16)) e in
         inr (inr (inr (later, omega (arith, within, small, few, wide, near, is, pads, over), omega (arith, is, over, within, wide))))
@@ -179,20 +187,22 @@ spare_even fills made before capacity segment least head frames size padding lat
 pub spare_is : (next : Option SpaceId) (b : Batch) (id : SpaceId) (form : Form) (number : ℕ) (f nearly : Bool) (least head frames size padding : ℕ) → IsBegun b id → (f ≡ true → is_space id Initial ≡ true) →
     least ≤ head + 22 → head + 41 ≤ b.capacity - b.filled →
     size ≡ max (max least (least_by next (batch_grown form number (max (max least 0) (head + frames + 16)) 0 f nearly b) b.filled)) (head + frames + 16) → padding ≡ size - (head + frames + 16) →
-    IsSpare (b.fills || f) b.made b.filled b.segment least size padding
+    IsSpare (wanted_by (b.wide || widens b form) (b.fills || f) b) b.made b.filled b.segment least size padding
 unfolding batch_grown
-spare_is (Some other) b id form number f nearly least head frames size padding begun first few wide is pads = spare_own (b.fills || f) b.made b.filled b.segment least (head + frames + 16) size padding is pads
-spare_is None b id form number f nearly least head frames size padding begun first few wide is pads = by_tests (b.fills || f) (evens_out c) refl refl is
+spare_is (Some other) b id form number f nearly least head frames size padding begun first few wide is pads = spare_own (wanted_by (b.wide || widens b form) (b.fills || f) b) b.made b.filled b.segment least (head + frames + 16) size padding is pads
+spare_is None b id form number f nearly least head frames size padding begun first few wide is pads = by_tests (nat_lt 0 wanted) (evens_out c) refl is
   where
+    wanted : ℕ
+    wanted = wanted_by (b.wide || widens b form) (b.fills || f) b
+
     c : Batch
     c = batch_grown form number (max (max least 0) (head + frames + 16)) 0 f nearly b
 
-    by_tests : (x y : Bool) → (b.fills || f) ≡ x → evens_out c ≡ y → size ≡ max (max least (if x then DATAGRAM_SIZE - b.filled else if y then b.segment - b.filled else 0)) (head + frames + 16) →
-        IsSpare (b.fills || f) b.made b.filled b.segment least size padding
-    by_tests true y e g is = spare_filled (b.fills || f) b.made b.filled b.segment least (head + frames + 16) size padding e (omega (arith, begun.sized.fits, begun.sized.within, begun.sized.small)) is pads
-    by_tests false true e g is =
-        spare_even (b.fills || f) b.made b.filled b.capacity b.segment least head frames size padding (evens_later c g) begun.sized.within begun.sized.small few wide (evens_near c g) is pads
-    by_tests false false e g is = spare_own (b.fills || f) b.made b.filled b.segment least (head + frames + 16) size padding is pads
+    by_tests : (x y : Bool) → evens_out c ≡ y → size ≡ max (max least (if x then wanted - b.filled else if y then b.segment - b.filled else 0)) (head + frames + 16) →
+        IsSpare wanted b.made b.filled b.segment least size padding
+    by_tests true y g is = spare_filled wanted b.made b.filled b.segment least (head + frames + 16) size padding is pads
+    by_tests false true g is = spare_even wanted b.made b.filled b.capacity b.segment least head frames size padding (evens_later c g) begun.sized.within begun.sized.small few wide (evens_near c g) is pads
+    by_tests false false g is = spare_own wanted b.made b.filled b.segment least (head + frames + 16) size padding is pads
 
 -- the packet has room
 pub size_fits : (b : Batch) (id : SpaceId) (least asked plain size : ℕ) → IsBegun b id → size ≡ max (max least asked) plain → least ≤ b.capacity - b.filled → asked ≤ b.capacity - b.filled → plain ≤ b.capacity - b.filled →
@@ -208,6 +218,7 @@ unfolding batch_grown
 grown_sized b id form number size padding f nearly begun first fits = record {
   within = begun.sized.within;
   small = begun.sized.small;
+  least = begun.sized.least;
   fits = omega (arith, fits);
   large = either_large b id f begun first;
   most = begun.sized.most;
@@ -217,12 +228,15 @@ grown_sized b id form number size padding f nearly begun first fits = record {
 pub grown_closed : (b : Batch) (id : SpaceId) (form : Form) (number n size padding least plain : ℕ) (f nearly : Bool) → IsBegun b id → b.filled + size ≤ b.capacity →
     size ≡ max (max least (least_by None (batch_grown form number n 0 f nearly b) b.filled)) plain → is_closed_up (batch_grown form number size padding f nearly b) ≡ true
 unfolding batch_grown is_closed_up
-grown_closed b id form number n size padding least plain f nearly begun fits is = by_fills (b.fills || f) refl is
+grown_closed b id form number n size padding least plain f nearly begun fits is = by_wants (nat_lt 0 wanted) refl is
   where
-    by_fills : (x : Bool) → (b.fills || f) ≡ x → size ≡ max (max least (if x then DATAGRAM_SIZE - b.filled else if evens_out (batch_grown form number n 0 f nearly b) then b.segment - b.filled else 0)) plain →
-        (not x || nat_le DATAGRAM_SIZE (plus b.filled size)) ≡ true
-    by_fills true e is = le_true DATAGRAM_SIZE (plus b.filled size) (omega (arith, is, fits, begun.sized.within, begun.sized.small))
-    by_fills false e is = refl
+    wanted : ℕ
+    wanted = wanted_by (b.wide || widens b form) (b.fills || f) b
+
+    by_wants : (x : Bool) → nat_lt 0 wanted ≡ x → size ≡ max (max least (if x then wanted - b.filled else if evens_out (batch_grown form number n 0 f nearly b) then b.segment - b.filled else 0)) plain →
+        nat_le wanted (plus b.filled size) ≡ true
+    by_wants true e is = le_true wanted (plus b.filled size) (omega (arith, is, fits, begun.sized.within, begun.sized.small))
+    by_wants false e is = le_true wanted (plus b.filled size) (omega (arith, lt_fails 0 wanted e))
 
 -- where another packet joins, there is as much left as was thought
 pub joins_still : (b : Batch) (form : Form) (number n size padding : ℕ) (f g nearly : Bool) → size ≡ n → joins_more (batch_grown form number n 0 f nearly b) ≡ true →

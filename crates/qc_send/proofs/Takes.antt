@@ -1,5 +1,6 @@
 -- What taking frames leaves: the header of the next packet, its size and its bytes; a close and PADDING are taken without a change.
-use Rattle.std.proofs.Common.{◌≡◌, ℕ, ◌+◌, ◌-◌, ◌⊎◌, ◌||◌, not, inl, inr, append-nil, subst, List, [], ◌∷◌, ◌++◌, length, replicate, refl, ap, sym, ◌∙◌, Bool, true, false, ◌&&◌, if◌then◌else◌, Option, Some, None}
+use Rattle.std.proofs.lemmas.Bool.Decides.{nat_tests}
+use Rattle.std.proofs.Common.{◌≡◌, ℕ, ◌+◌, ◌-◌, ◌<◌, nat_lt, arith, ◌⊎◌, ◌||◌, not, inl, inr, append-nil, subst, List, [], ◌∷◌, ◌++◌, length, replicate, refl, ap, sym, ◌∙◌, Bool, true, false, ◌&&◌, if◌then◌else◌, Option, Some, None}
 use Rattle.std.specs.List.{list_any}
 use Rattle.qc_base.specs.declared.side.SpaceId.{SpaceId}
 use Rattle.qc_base.specs.declared.side.SpaceId.TheVariants.{Initial, Handshake, «Data»}
@@ -49,6 +50,12 @@ use Rattle.qc_streams.specs.Steps.{AllMay}
 use Rattle.qc_streams.specs.Waits.{Step}
 use Rattle.qc_send.proofs.Waits.{without_all_append, without_padded}
 use Rattle.qc_send.specs.Taking.{OwesAckAlone, TakenNow}
+
+-- where a probe was due, a frame elicits an acknowledgement, or there is too little room for one
+pub probe_answered : (probes elicits : Bool) (left : ℕ) (answers : Bool) → answers ≡ (not probes || (elicits || nat_lt left 64)) → answers ≡ true → probes ≡ true → (elicits ≡ true) ⊎ (left < 64)
+probe_answered false elicits left answers is holds due = cc
+probe_answered true true left answers is holds due = inl refl
+probe_answered true false left answers is holds due = inr (let few : nat_lt left 64 ≡ true = sym is ∙ holds in grind (arith, nat_tests))
 
 -- a close is sealed without leaving what waits
 application_stays : (w : SpaceWaiting) (id : SpaceId) (code : ℕ) (kept : List ℕ) → without w (application_close id code kept) ≡ w

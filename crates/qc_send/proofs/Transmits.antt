@@ -1,6 +1,5 @@
 -- What a transmit sealed, or why it sealed nothing, is what it may do.
-use Rattle.std.proofs.Common.{◌≡◌, ℕ, List, [], length, refl, ap, sym, ◌∙◌, subst, Bool, true, false, Option, Some, None, Err}
-use Rattle.qc_state.specs.declared.deeds.Quiet.{Quiet}
+use Rattle.std.proofs.Common.{◌≡◌, ℕ, List, [], length, refl, ap, sym, ◌∙◌, subst, Bool, true, false, Option, Some, None, Err, inl}
 use Rattle.qc_state.specs.declared.deeds.Quiet.TheVariants.{Killed}
 use Rattle.qc_state.specs.declared.form.Form.{Form}
 use Rattle.qc_state.specs.declared.life.ConnectionError.{ConnectionError}
@@ -13,9 +12,8 @@ use Rattle.qc_frame.specs.Frame.{FrameValue}
 use Rattle.qc_state.specs.Forms.{number_space}
 use Rattle.qc_state.specs.Moves.{Arm, Begin, Move, MayMove, Say, Seal, Skip, Spend, Take, move_to, paths_move, setup_move, state_move}
 use Rattle.qc_state.specs.Numbers.{next_number}
-use Rattle.qc_state.specs.Offers.{path_size}
 use Rattle.qc_state.specs.Paths.{path_kept}
-use Rattle.qc_state.specs.Sending.{Died, Dies, Going, Hushed, MayEnd, MayTransmit, SendsAll, Transmits, batch_begun, ending_after, finished_after, going, going_from, gone_after, held_after, most_of, packet_size, packets_after, quiet_of, sent_size, transmit_after, transmit_bytes, transmit_of, transmit_with}
+use Rattle.qc_state.specs.Sending.{Died, Dies, Going, MayEnd, MayTransmit, SendsAll, Transmits, batch_from, ending_after, finished_after, going, going_from, gone_after, packet_size, packets_after, sent_size, transmit_after, transmit_bytes, transmit_of, transmit_with}
 use Rattle.qc_state.specs.Setup.{packet_drawn, word_drawn}
 use Rattle.qc_state.specs.Stopping.{killed_after}
 use Rattle.qc_state.specs.Types.{Types, Meaning}
@@ -112,7 +110,7 @@ module _ {t : Types} where
     packets = s.packets;
     ending = Died why;
     may = s.may;
-    ends = subst (λ (x : Going t). Dies m time x.now.state x.batch why) s.leads dies;
+    ends = inl (subst (λ (x : Going t). Dies m time x.now.state x.batch why) s.leads dies);
     leads = is_b ∙ ap (λ (x : Going t). move_to (Say Killed) (killed_after why x.now)) s.leads;
     answer = is_sent;
     bytes = empty;
@@ -122,7 +120,7 @@ module _ {t : Types} where
   -- ---- a transmit
 
   -- one that has begun with nothing sealed
-  pub transmits_so : (m : Meaning t) (time asked : ℕ) (a b : At t) (batch : Batch) (old buffer : List ℕ) (sent : Option Transmit) → batch ≡ batch_begun a.state.waiting.close_owed (most_of a.state asked) (path_size a.state) → old ≡ [] →
+  pub transmits_so : (m : Meaning t) (time asked : ℕ) (a b : At t) (batch : Batch) (old buffer : List ℕ) (sent : Option Transmit) → batch ≡ batch_from asked a.state → old ≡ [] →
       EndsSo m time (going a batch old) b sent buffer → Transmits m time asked a b sent buffer
   unfolding MayTransmit transmit_after gone_after transmit_of transmit_bytes
   transmits_so m time asked a b batch old buffer sent is_batch is_old h =
@@ -139,18 +137,5 @@ module _ {t : Types} where
       }
 
   -- none of its bytes are counted before
-  pub begun_empty : (s : View t) (most : ℕ) (batch : Batch) (old : List ℕ) → batch ≡ batch_begun s.waiting.close_owed most (path_size s) → old ≡ [] → length old ≡ batch.total
-  begun_empty s most batch old is_batch is_old = ap length is_old ∙ sym (ap (λ (x : Batch). x.total) is_batch)
-
-  -- one that seals nothing, for a cause
-  pub transmits_quiet : (m : Meaning t) (time asked : ℕ) (a mid b : At t) (batch : Batch) (quiet : Quiet) (buffer : List ℕ) → batch ≡ batch_begun a.state.waiting.close_owed (most_of a.state asked) (path_size a.state) →
-      quiet_of m time a.state batch ≡ Some quiet → mid ≡ held_after m time quiet batch a → b ≡ move_to (Say quiet) mid → buffer ≡ [] → Transmits m time asked a b None buffer
-  unfolding MayTransmit transmit_after ending_after gone_after transmit_of transmit_bytes
-  transmits_quiet m time asked a mid b batch quiet buffer begun may held moved empty = record {
-    choice = record { packets = []; ending = Hushed quiet; read = Err Blocked };
-    may = (tt, (refl, ap (λ (x : Batch). quiet_of m time a.state x) (sym begun) ∙ may));
-    leads = moved ∙ ap (λ (x : At t). move_to (Say quiet) x) (held ∙ ap (λ (x : Batch). held_after m time quiet x a) begun);
-    answer = refl;
-    bytes = empty;
-    full = ap length empty;
-  }
+  pub begun_empty : (s : View t) (asked : ℕ) (batch : Batch) (old : List ℕ) → batch ≡ batch_from asked s → old ≡ [] → length old ≡ batch.total
+  begun_empty s asked batch old is_batch is_old = ap length is_old ∙ sym (ap (λ (x : Batch). x.total) is_batch)

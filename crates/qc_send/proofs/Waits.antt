@@ -1,7 +1,6 @@
 -- The frames that this end takes wait, there is one where one waits, and they fit.
-use Rattle.std.proofs.Common.{◌≡◌, ℕ, zero, suc, ◌+◌, ◌-◌, ◌%◌, ◌≤◌, List, [], ◌∷◌, ◌++◌, length, replicate, refl, ap, sym, ◌∙◌, subst, Bool, true, false, ◌||◌, ◌⊎◌, if◌then◌else◌, Option, arith, length-append, append_assoc, append-nil, inl, inr, ◌&&◌}
+use Rattle.std.proofs.Common.{◌≡◌, ℕ, zero, suc, ◌+◌, ◌-◌, ◌≤◌, List, [], ◌∷◌, ◌++◌, length, replicate, refl, ap, sym, ◌∙◌, subst, Bool, true, false, ◌||◌, ◌⊎◌, if◌then◌else◌, Option, arith, length-append, append_assoc, append-nil, inl, inr, ◌&&◌}
 use Rattle.std.proofs.lemmas.Grind.{flat_map-append}
-use Rattle.qc_base.specs.Varint.{varint, spelled, limit, one, two, four, eight}
 use Rattle.qc_frame.specs.Frame.{FrameValue}
 use Rattle.qc_frame.specs.FrameFits.{Fits}
 use Rattle.qc_frame.specs.FrameSpelling.{elicits, spelling, frames_spelling}
@@ -20,7 +19,7 @@ use Rattle.qc_state.proofs.DatagramSteps.{taken_datagrams}
 use Rattle.qc_state.proofs.IdSteps.{taken_cids}
 use Rattle.qc_state.proofs.OffersTaken.{frames_sealed_append}
 use Rattle.qc_state.proofs.RoomTold.{same_heard, told_twice}
-use Rattle.qc_state.proofs.Taken.{front_cids, front_datagrams, front_steps, last_counts, last_same, offered_stays, own_next, own_oldest, part_steps}
+use Rattle.qc_state.proofs.Taken.{front_cids, front_datagrams, front_steps, last_counts, last_same, offered_stays, own_next, own_oldest, part_steps, marks_size}
 use Rattle.qc_state.specs.Allowed.{Waits, WaitAll}
 use Rattle.qc_state.specs.Datagrams.{AllOldest, IsOldest, sealed_datagrams, told_by_all}
 use Rattle.qc_state.specs.Ids.{AllNext, IsNext, sealed_cids}
@@ -29,7 +28,7 @@ use Rattle.qc_state.specs.Lower.{datagrams_stepped, frames_sealed, ids_stepped, 
 use Rattle.qc_state.specs.Moves.{Take, state_move, numbers_move, keys_move, life_move, paths_move, timers_move, waiting_move, setup_move, lower_move}
 use Rattle.qc_state.specs.Spaces.{is_space, space_of, with_space}
 use Rattle.qc_state.specs.StreamFrames.{sealed_step, sealed_steps}
-use Rattle.qc_state.specs.Taking.{AreOffered, room_behind, marks_part, done_part, ping_part, is_offered_frame, CryptoPart, TakenPart}
+use Rattle.qc_state.specs.Taking.{AreOffered, marks_part, done_part, ping_part, is_offered_frame, CryptoPart, TakenPart}
 use Rattle.qc_state.specs.Types.{Types}
 use Rattle.qc_state.specs.View.{View}
 use Rattle.qc_state.specs.Waiting.{StartsWith, without, without_all, crypto_waits, waiting_without, wants_here}
@@ -175,47 +174,17 @@ ack_fits time room w acks false (AckPart.none is) = subst (λ (x : List FrameVal
 pub bytes_append : (fs gs : List FrameValue) → length (frames_spelling (fs ++ gs)) ≡ length (frames_spelling fs) + length (frames_spelling gs)
 bytes_append fs gs = ap length (flat_map-append spelling fs gs) ∙ length-append (frames_spelling fs) (frames_spelling gs)
 
--- a field of a frame has at most 8 bytes
-short_by : (a b c : Bool) (x y z u : List ℕ) → length x ≤ 8 → length y ≤ 8 → length z ≤ 8 → length u ≤ 8 → length (if a then x else if b then y else if c then z else u) ≤ 8
-short_by true b c x y z u h i j k = h
-short_by false true c x y z u h i j k = i
-short_by false false true x y z u h i j k = j
-short_by false false false x y z u h i j k = k
-
-varint_short : (n : ℕ) → length (varint n) ≤ 8
-unfolding varint
-varint_short n = short_by _ _ _ (spelled one n) (spelled two n) (spelled four n) (spelled eight (n % limit eight)) (omega arith) (omega arith) (omega arith) (omega arith)
-
-type_short : length (varint 0x06) ≡ 1
-unfolding varint
-type_short = refl
-
-crypto_len : (offset : ℕ) (body : List ℕ) → length (frames_spelling (Crypto offset body ∷ [])) ≤ 17 + length body
-unfolding spelling
-crypto_len offset body = simp (length-append, type_short) (omega (arith, varint_short offset, varint_short (length body)))
-
--- the CRYPTO frames fit into the room, and leave of it what is left behind them
-crypto_fits : (w : SpaceWaiting) (room : ℕ) (fs : List FrameValue) → CryptoPart w room fs → length (frames_spelling fs) + room_behind room fs ≤ room
+-- the CRYPTO frames fit into the room
+crypto_fits : (w : SpaceWaiting) (room : ℕ) (fs : List FrameValue) → CryptoPart w room fs → length (frames_spelling fs) ≤ room
 unfolding CryptoPart
 crypto_fits w room [] h = omega arith
 crypto_fits w room (Crypto offset body ∷ fs) h =
-    let rest : length (frames_spelling fs) + room_behind (room - (length body + 17)) fs ≤ room - (length body + 17) = crypto_fits (without w (Crypto offset body)) _ fs h.2 in
-    let whole : length (frames_spelling (Crypto offset body ∷ fs)) ≡ length (frames_spelling (Crypto offset body ∷ [])) + length (frames_spelling fs) = bytes_append (Crypto offset body ∷ []) fs in
-    let fits : length body + 17 ≤ room = h.1 in
-    omega (arith, rest, whole, fits, crypto_len offset body)
+    let f : FrameValue = Crypto offset body in
+    let rest : length (frames_spelling fs) ≤ room - length (spelling f) = crypto_fits (without w f) _ fs h.2 in
+    let whole : length (frames_spelling (f ∷ fs)) ≡ length (spelling f) + length (frames_spelling fs) = length-append (spelling f) (frames_spelling fs) in
+    let fits : length (spelling f) ≤ room = h.1 in
+    omega (arith, rest, whole, fits)
 crypto_fits w room (_ ∷ fs) h = absurd h
-
--- a HANDSHAKE_DONE and a PING have a byte each
-marks_fit_by : (a b : Bool) → length (frames_spelling (marks_of a b)) ≡ length (marks_of a b)
-unfolding spelling varint
-marks_fit_by true true = refl
-marks_fit_by true false = refl
-marks_fit_by false true = refl
-marks_fit_by false false = refl
-
-marks_fit : (w : SpaceWaiting) → length (frames_spelling (marks_part w)) ≡ length (marks_part w)
-unfolding marks_part done_part ping_part
-marks_fit w = marks_fit_by w.done w.ping
 
 marks_few_by : (a b : Bool) → length (marks_of a b) ≤ 2
 marks_few_by true true = omega arith
@@ -240,7 +209,7 @@ taken_fits time bundled in_data w room fs taken r =
       bytes_append taken.crypto (taken.own ++ taken.last),
       bytes_append taken.own taken.last,
       taken.fits,
-      marks_fit w,
+      marks_size w,
       marks_few w,
       taken.few,
       ack_fits time taken.most w taken.acks (is_ack_first w.acks) taken.ack,

@@ -25,5 +25,5 @@ module _ {t : Types} where
     pub ends : MayEnd m time ending (packets_after m time packets g).now.state (packets_after m time packets g).batch
     pub leads : b ≡ ending_after m time ending (packets_after m time packets g).batch (packets_after m time packets g).now
     pub answer : sent ≡ sent_out ending (transmit_with g.now.state (packets_after m time packets g).batch)
-    pub bytes : buffer ≡ bytes_out ending (packets_after m time packets g).out
+    pub bytes : buffer ≡ bytes_out m time ending (packets_after m time packets g).batch (packets_after m time packets g).now (packets_after m time packets g).out
     pub full : length buffer ≡ sent_size sent

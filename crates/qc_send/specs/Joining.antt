@@ -12,12 +12,12 @@ use Rattle.qc_state.specs.declared.deeds.Quiet.{Quiet}
 use Rattle.qc_state.specs.declared.deeds.Quiet.TheVariants.{Congestion, Pacing}
 use Rattle.qc_state.specs.declared.life.ConnectionError.{ConnectionError}
 use Rattle.qc_state.specs.declared.transmit.Batch.{Batch}
-use Rattle.qc_state.specs.declared.transmit.TheConstants.{DATAGRAM_SIZE, JOINING_SIZE}
+use Rattle.qc_state.specs.declared.transmit.TheConstants.{JOINING_SIZE}
 use Rattle.qc_state.specs.Acks.{IsLongAck, is_ack_owed}
 use Rattle.qc_state.specs.Keys.{form_in}
 use Rattle.qc_state.specs.Life.{is_drained, is_open}
 use Rattle.qc_state.specs.Offers.{datagram_fits, wants_sending}
-use Rattle.qc_state.specs.Sending.{Dies, HasTurn, IsBehind, IsEnded, IsHeld, MayStand, begun_view, is_done, is_in_order, is_whole, next_segment, owes_in, room_of, takes_another}
+use Rattle.qc_state.specs.Sending.{Dies, HasTurn, IsBehind, IsEnded, IsHeld, MayStand, begun_view, is_done, is_in_order, is_whole, next_segment, owes_in, room_of, takes_another, wanted_size}
 use Rattle.qc_state.specs.Spaces.{is_space, space_of}
 use Rattle.qc_state.specs.Types.{Types, Meaning}
 use Rattle.qc_state.specs.View.{View}
@@ -52,6 +52,7 @@ abbrev pub IsBelow : SpaceId → (next : Option SpaceId) → Type 0
 IsBelow id None = Unit {0}
 IsBelow id (Some other) = packets_from other < packets_from id
 
+-- so is the space of a packet that joins; nothing is asked where none does
 abbrev pub FallsTo : SpaceId → Next → Type 0
 FallsTo id (next.Joins other) = packets_from other < packets_from id
 FallsTo id next.Full = Unit {0}
@@ -62,9 +63,10 @@ FallsTo id (next.Dies why) = Unit {0}
 -- the sizes of a transmit's datagrams: none has more bytes than the first one may have, and one that is to be filled up can be
 pub record IsSized (b : Batch) : Type 0 where
   pub within : b.capacity ≤ b.segment
-  pub small : b.segment ≤ DATAGRAM_SIZE
+  pub small : b.segment ≤ 16383
+  pub least : 1200 ≤ b.least
   pub fits : b.filled ≤ b.capacity
-  pub large : b.fills ≡ true → DATAGRAM_SIZE ≤ b.capacity
+  pub large : b.fills ≡ true → b.least ≤ b.capacity
   pub most : b.most ≤ 18446744073709551615
 
 -- what follows a packet that was sealed
@@ -88,7 +90,7 @@ left_for b false = b.capacity - b.filled
 pub record IsRoomy (b : Batch) (id : SpaceId) (opens : Bool) : Type 0 where
   pub sized : IsSized b
   pub left : JOINING_SIZE ≤ left_for b opens
-  pub large : is_space id Initial ≡ true → (opens ≡ true) × (DATAGRAM_SIZE ≤ next_segment b)
+  pub large : is_space id Initial ≡ true → (opens ≡ true) × (b.least ≤ next_segment b)
   pub bare : opens ≡ false → b.padding ≤ padding_before id
 
 -- so there is once it is begun
@@ -96,7 +98,7 @@ pub record IsBegun (b : Batch) (id : SpaceId) : Type 0 where
   pub sized : IsSized b
   pub some : 0 < b.made
   pub left : JOINING_SIZE ≤ b.capacity - b.filled
-  pub large : is_space id Initial ≡ true → DATAGRAM_SIZE ≤ b.capacity - b.filled
+  pub large : is_space id Initial ≡ true → b.least ≤ b.capacity - b.filled
   pub bare : b.padding ≤ padding_before id
 
 -- so many datagrams were begun with a packet that begins one, or joins one
@@ -127,7 +129,7 @@ goes_on b = (not b.worn && nat_lt b.made b.most) && (is_whole b && nat_le JOININ
 
 -- another datagram has too few bytes for a packet of this space: an Initial packet may have to fill it
 abbrev pub is_small : Batch → SpaceId → Bool
-is_small b id = is_space id Initial && nat_lt (next_segment b) DATAGRAM_SIZE
+is_small b id = is_space id Initial && nat_lt (next_segment b) b.least
 
 -- what a datagram that a packet of the space would begin comes to, by the limits: the window lets the next spaces have a try
 abbrev pub further_by : SpaceId → (limit : Option Quiet) → Further
@@ -151,7 +153,7 @@ evens_out b = nat_lt 1 b.made && (nat_le (b.segment - b.filled) 16 && nat_le b.s
 -- size of those before it. `b` is the batch behind the packet that has as many bytes as it needs for itself, and `before` how many bytes the
 -- datagram has before it.
 abbrev pub least_last : Batch → (before : ℕ) → ℕ
-least_last b before = if b.fills then DATAGRAM_SIZE - before else if evens_out b then b.segment - before else 0
+least_last b before = if nat_lt 0 (wanted_size b) then wanted_size b - before else if evens_out b then b.segment - before else 0
 
 -- and how many any packet is to have: one that another one joins, none
 abbrev pub least_by : (next : Option SpaceId) → Batch → (before : ℕ) → ℕ

@@ -13,7 +13,7 @@ use crate::sealing::frame_room;
 use qc_base::{Instant, SpaceId};
 use qc_core::Core;
 use qc_state::spaces::is_space;
-use qc_state::{Batch, DATAGRAM_SIZE, Form, JOINING_SIZE, Means, Quiet, Suite};
+use qc_state::{Batch, Form, JOINING_SIZE, Means, Quiet, Suite};
 use std::alloc::{AllocError, Global};
 
 /// What follows a datagram that no packet joins any more.
@@ -219,7 +219,7 @@ fn begins_behind<U: Suite>(core: &Core<U>, batch: &Batch, space: SpaceId) -> boo
 fn is_small(batch: &Batch, space: SpaceId) -> bool
     ensures { result ≡ is_small batch.now space }
 {
-    is_space(space, SpaceId::Initial) && batch.next_segment() < DATAGRAM_SIZE
+    is_space(space, SpaceId::Initial) && batch.next_segment() < batch.least
 }
 
 /// Whether a packet of the space begins another datagram: it may stand behind the last packet, and its space has something for it. Want of

@@ -5,6 +5,7 @@ mod closing;
 mod joining;
 mod owing;
 mod planning;
+mod probing;
 mod sealing;
 mod sending;
 mod taking;

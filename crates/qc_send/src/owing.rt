@@ -17,7 +17,7 @@ use qc_base::{Instant, SpaceId, TransportError, TransportErrorCode};
 use qc_core::Core;
 use qc_core::stopping::key_limit_error;
 use qc_packet::NUMBER_LIMIT;
-use qc_state::{Batch, ConnectionError, DATAGRAM_SIZE, Form, Means, Quiet, Suite};
+use qc_state::{Batch, ConnectionError, Form, Means, Quiet, Suite};
 use std::alloc::{AllocError, Global};
 
 /// What a transmit begins with.
@@ -148,22 +148,22 @@ pub(crate) fn is_probe_due<U: Suite>(core: &Core<U>, form: Form) -> bool
     core.waiting.owes_probe(form.space())
 }
 
-/// Whether the token of the next Initial packet leaves no room for the greatest close without a reason.
-fn lacks_room<U: Suite>(core: &Core<U>) -> bool
+/// Whether the token of the next Initial packet leaves no room for the greatest close without a reason in a datagram of so many bytes.
+fn lacks_room<U: Suite>(core: &Core<U>, least: u64) -> bool
     requires { next_number core.now.numbers Initial - acked_number core.now.numbers Initial < 2 ^ 31 }
-    ensures { result ≡ nat_lt (room_of DATAGRAM_SIZE (ideal U.Random.stream core.now) Form.Initial) 25 }
+    ensures { result ≡ nat_lt (room_of least (ideal U.Random.stream core.now) Form.Initial) 25 }
 {
-    frame_room(core, DATAGRAM_SIZE as usize, Form::Initial) < GREATEST_CLOSE
+    frame_room(core, least as usize, Form::Initial) < GREATEST_CLOSE
 }
 
 /// Whether the token of the next packet, an Initial one, leaves no room for the greatest close without a reason.
 #[tactic(auto, unfolding(qc_state::specs::Sending::is_token_too_long))]
-fn is_token_too_long<U: Suite>(core: &Core<U>, form: Form) -> bool
+fn is_token_too_long<U: Suite>(core: &Core<U>, batch: &Batch, form: Form) -> bool
     requires { is_used_up (ideal U.Random.stream core.now) (number_space form) ≡ false }
-    ensures { result ≡ is_token_too_long (ideal U.Random.stream core.now) form }
+    ensures { result ≡ is_token_too_long batch.now (ideal U.Random.stream core.now) form }
 {
     match form {
-        Form::Initial => lacks_room(core),
+        Form::Initial => lacks_room(core, batch.least),
         Form::Handshake | Form::Early | Form::OneRtt => false,
     }
 }
@@ -178,8 +178,8 @@ fn ended_with(code: TransportErrorCode) -> ConnectionError
 /// Why the connection ends as a packet of this form is about to begin: its key has sealed as many packets as it may, or the
 /// packet numbers are used up, or its token leaves no room for frames. None where it may begin.
 #[tactic(auto, unfolding(qc_state::specs::Sending::kill_in))]
-pub(crate) fn kill<U: Suite>(core: &Core<U>, form: Form) -> Option<ConnectionError>
-    ensures { result ≡ kill_in (ideal U.Random.stream core.now) form }
+pub(crate) fn kill<U: Suite>(core: &Core<U>, batch: &Batch, form: Form) -> Option<ConnectionError>
+    ensures { result ≡ kill_in batch.now (ideal U.Random.stream core.now) form }
 {
     if is_key_used_up(core, form) {
         return Some(ConnectionError::TransportError(key_limit_error()));
@@ -187,7 +187,7 @@ pub(crate) fn kill<U: Suite>(core: &Core<U>, form: Form) -> Option<ConnectionErr
     if is_used_up(core, form.space()) {
         return Some(ended_with(TransportErrorCode::INTERNAL_ERROR));
     }
-    if is_token_too_long(core, form) {
+    if is_token_too_long(core, batch, form) {
         return Some(ended_with(TransportErrorCode::PROTOCOL_VIOLATION));
     }
     None

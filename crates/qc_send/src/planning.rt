@@ -16,7 +16,7 @@ use crate::sealing::{TAG, fills_up};
 use qc_base::{Instant, PacketNumber, SpaceId};
 use qc_core::Core;
 use qc_frame::FrameList;
-use qc_state::{Batch, DATAGRAM_SIZE, Form, Means, Suite};
+use qc_state::{Batch, Form, Means, Suite};
 use std::alloc::{AllocError, Global};
 
 /// What is to become of a packet whose frames were taken.
@@ -121,8 +121,9 @@ fn evens_out(batch: &Batch) -> bool
 fn least_last(batch: &Batch, before: u64) -> usize
     ensures { result ≡ least_last batch.now before }
 {
-    if batch.fills {
-        return DATAGRAM_SIZE.saturating_sub(before) as usize;
+    let wanted = batch.wanted();
+    if 0 < wanted {
+        return wanted.saturating_sub(before) as usize;
     }
     let evens = evens_out(batch);
     if evens {

@@ -149,7 +149,7 @@ pub(crate) fn fills_up<U: Suite>(core: &Core<U>, form: Form, frames: &FrameList)
 /// A packet of this form is begun, and a datagram with it where it opens one: a probe that is due in its space is spent then, and
 /// the number that would be next is skipped where it is to be. Want of memory is the only refusal.
 #[tactic(auto, unfolding(qc_state::specs::Sending::begun_after, qc_state::specs::Sending::skipped_after, qc_state::specs::Moves::move_to, qc_state::specs::Moves::deeds_move))]
-fn begin_packet<U: Suite>(
+pub(crate) fn begin_packet<U: Suite>(
     core: &mut Core<U>,
     form: Form,
     opens: bool,
@@ -206,7 +206,7 @@ pub(crate) fn finish<U: Suite>(
 /// This end closes behind a packet that was sealed, where its key may seal only one more, so that this one can be the close
 /// (RFC 9001, section 6.6). `nearly` is what `is_key_nearly_used_up` said before the packet.
 #[tactic(auto, unfolding(qc_state::specs::Sending::spared_after))]
-fn spare<U: Suite>(
+pub(crate) fn spare<U: Suite>(
     core: &mut Core<U>,
     did: &mut Dids,
     now: Instant,

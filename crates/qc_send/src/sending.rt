@@ -7,20 +7,22 @@ ghost use Rattle.qc_send.specs.Joining.{FallsTo, FilledIs, FollowIs, IsBelow, Is
 ghost use Rattle.qc_state.specs.Forms.{number_space};
 ghost use Rattle.qc_state.specs.Moves.{Say, move_to};
 ghost use Rattle.qc_state.specs.declared.deeds.Quiet.TheVariants.{Killed};
-ghost use Rattle.qc_state.specs.Offers.{path_size};
-ghost use Rattle.qc_state.specs.Sending.{MayBegin, SendsAll, SendsOne, Transmits, batch_begun, ending_after, going, held_after, most_of, transmit_with};
+ghost use Rattle.qc_state.specs.Sending.{MayBegin, SendsAll, SendsOne, Transmits, batch_from, ending_after, going, held_after, quiet_of, transmit_with};
 ghost use Rattle.qc_state.specs.Stopping.{killed_after};
 ghost use Rattle.qc_state.specs.View.{ideal, held};
 
 use crate::joining::{Further, find_further};
-use crate::owing::{Turn, form_in, is_key_nearly_used_up, kill, next_number, turn_now};
+use crate::owing::{
+    Turn, form_in, is_key_nearly_used_up, is_probe_due, kill, next_number, turn_now,
+};
 use crate::planning::plan_packet;
+use crate::probing::seal_probe;
 use crate::sealing::{begin, finish, frame_room, seal, transmit_to};
 use crate::taking::take;
 use qc_base::{Instant, SpaceId};
 use qc_core::Core;
 use qc_state::spaces::Spaces;
-use qc_state::{Batch, ConnectionError, DATAGRAM_SIZE, Dids, Form, Means, Quiet, Suite, Transmit};
+use qc_state::{Batch, ConnectionError, Dids, Form, Means, Quiet, Suite, Transmit};
 use std::alloc::{AllocError, Global};
 
 /// What follows a packet.
@@ -48,14 +50,22 @@ pub(crate) enum Outcome {
 /// What is known of the datagrams of a transmit that begins, which is asked for at most so many.
 #[tactic(auto, unfolding(qc_state::specs::Setup::ideal_setup))]
 fn new_batch<U: Suite>(core: &Core<U>, asked: u64) -> Batch
-    ensures { result ≡ batch_begun core.now.waiting.close_owed (most_of (ideal U.Random.stream core.now) asked) (path_size (ideal U.Random.stream core.now)) }
+    ensures { result ≡ batch_from asked (ideal U.Random.stream core.now) }
 {
     let most = if core.setup.fixed.segmentation {
         asked
     } else {
         1
     };
-    Batch::new(core.waiting.close_owed, most, DATAGRAM_SIZE)
+    let segment = core.path_size();
+    let least = core.paths.current.least();
+    Batch::new(
+        core.waiting.close_owed,
+        core.setup.fixed.pads,
+        most,
+        segment,
+        least,
+    )
 }
 
 /// Seals one packet at the end of the buffer, in a datagram that begins with it, or that it joins. Answers which space's packet joins it. Want
@@ -82,11 +92,12 @@ fn seal_packet<U: Suite>(
 {
     let nearly = is_key_nearly_used_up(core, form);
     let first = batch.made == 0;
+    let probes = is_probe_due(core, form);
     begin(core, did, batch, form, opens)?;
     let left = batch.left();
     let room = frame_room(core, left, form);
     let number = next_number(core, form.space());
-    let frames = take(core, alloc, now, batch.closing, first, form, room)?;
+    let frames = take(core, alloc, now, batch.closing, first, probes, form, room)?;
     let plan = plan_packet(core, alloc, now, batch, form, room, nearly, &frames)?;
     let sealed = seal(
         core, alloc, did, now, form, left, room, plan.least, frames, buf,
@@ -135,7 +146,7 @@ fn packet_in<U: Suite>(
     ensures full { OnOk result (length buf.new.items ≡ batch.new.total) }
 {
     let form = form_in(core, space);
-    match kill(core, form) {
+    match kill(core, batch, form) {
         Some(why) => return Ok(Next::Dies(why)),
         None => {}
     }
@@ -217,7 +228,13 @@ fn datagram_in<U: Suite>(
 
 /// Where the pacer holds a datagram back, the connection wants to be called when it may go.
 #[tactic(auto, unfolding(qc_state::specs::Sending::held_after, qc_state::specs::Moves::move_to, qc_state::specs::Moves::deeds_move))]
-fn hold<U: Suite>(core: &mut Core<U>, did: &Dids, now: Instant, batch: &Batch, quiet: Quiet)
+pub(crate) fn hold<U: Suite>(
+    core: &mut Core<U>,
+    did: &Dids,
+    now: Instant,
+    batch: &Batch,
+    quiet: Quiet,
+)
     ensures { (held U.Random.stream core.new did.now) ≡ held_after ⟦<U as Means>⟧.meaning now quiet batch.now (held U.Random.stream core.old did.now) }
 {
     match quiet {
@@ -264,7 +281,7 @@ fn put_back<U: Suite>(core: &mut Core<U>, pings: Spaces<bool>)
 }
 
 /// The connection ends for this reason, and what was sealed goes nowhere. Want of memory is the only refusal.
-fn die<U: Suite>(
+pub(crate) fn die<U: Suite>(
     core: &mut Core<U>,
     did: &mut Dids,
     why: ConnectionError,
@@ -328,6 +345,41 @@ fn seal_all<U: Suite>(
     }
 }
 
+/// Nothing is due of what waits, for this cause: where a probe of the path's size is, it is sealed into the empty buffer; else the cause is told. Want
+/// of memory is the only refusal.
+fn seal_none<U: Suite>(
+    core: &mut Core<U>,
+    alloc: Global,
+    now: Instant,
+    batch: &Batch,
+    quiet: Quiet,
+    buf: &mut Vec<u8>,
+    did: &mut Dids,
+) -> Result<Option<Transmit>, AllocError>
+    requires none { batch.now.made ≡ 0 }
+    requires cause { quiet_of ⟦<U as Means>⟧.meaning now (ideal U.Random.stream core.old) batch.now ≡ Some quiet }
+    requires empty { buf.old.items ≡ [] }
+    ensures { IfOk result (λ sent. EndsSo ⟦<U as Means>⟧.meaning now (going (held U.Random.stream core.old did.old) batch.now buf.old.items) (held U.Random.stream core.new did.new) sent buf.new.items) }
+{
+    let size = match core.probe_size(now) {
+        None => {
+            hold(core, did, now, batch, quiet);
+            core.do_say(did, quiet)?;
+            return Ok(None);
+        }
+        Some(size) => size,
+    };
+    match kill(core, batch, Form::OneRtt) {
+        Some(why) => {
+            let sent = die(core, did, why, buf)?;
+            return Ok(sent);
+        }
+        None => {}
+    }
+    let sent = seal_probe(core, alloc, now, batch, quiet, size, buf, did)?;
+    Ok(Some(sent))
+}
+
 /// Seals what is due into an empty buffer, at most so many datagrams, and says where they go. None where nothing is sealed, for the cause that the
 /// last deed names. Want of memory is the only refusal, and then the buffer may be left with bytes, and a PING of a probe may wait.
 fn seal_due<U: Suite>(
@@ -345,9 +397,8 @@ fn seal_due<U: Suite>(
     let mut batch = new_batch(core, asked);
     let space = match turn_now(core, now, &batch) {
         Turn::Holds(quiet) => {
-            hold(core, did, now, &batch, quiet);
-            core.do_say(did, quiet)?;
-            return Ok(None);
+            let sent = seal_none(core, alloc, now, &batch, quiet, buf, did)?;
+            return Ok(sent);
         }
         Turn::Begins(space) => space,
     };

@@ -1,16 +1,13 @@
 -- What a packet makes of the batch of a transmit.
-use Rattle.std.proofs.Common.{◌≡◌, ℕ, ◌+◌, ◌-◌, ◌<◌, ◌≤◌, refl, sym, ap, ◌∙◌, subst, Bool, true, false, arith, ◌==◌, not, if◌then◌else◌}
-use Rattle.std.specs.Prelude.{◌&&◌, nat_lt, nat_le, min}
+use Rattle.std.proofs.Common.{◌≡◌, ℕ, ◌<◌, ◌≤◌, refl, sym, subst, Bool, true, false, arith, ◌==◌, not, if◌then◌else◌}
+use Rattle.std.specs.Prelude.{◌&&◌, nat_lt}
 use Rattle.std.proofs.lemmas.Bool.Decides.{nat_tests}
-use Rattle.qc_base.specs.Time.{plus}
 use Rattle.qc_state.specs.declared.transmit.Batch.{Batch}
-use Rattle.qc_state.specs.declared.transmit.TheConstants.{DATAGRAM_SIZE}
 use Rattle.qc_state.specs.Forms.{number_space}
 use Rattle.qc_state.specs.declared.form.Form.{Form}
-use Rattle.qc_state.specs.Sending.{Going, MayFollow, MayStand, Sent, batch_grown, batch_opened, begun_after, packet_after, packet_size, begun_batch, next_segment, takes_another}
+use Rattle.qc_state.specs.Sending.{Going, MayFollow, MayStand, Sent, batch_grown, batch_opened, packet_after, begun_batch, next_segment, takes_another}
 use Rattle.qc_state.specs.Types.{Types, Meaning}
-use Rattle.qc_state.specs.View.{View, At}
-use Rattle.qc_state.proofs.Begun.{begun_same}
+use Rattle.qc_state.specs.View.{View}
 use Rattle.qc_state.specs.Spaces.{space_of}
 
 -- the first datagram may have what the path takes

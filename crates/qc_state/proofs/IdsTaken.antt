@@ -1,5 +1,5 @@
 -- The frames about connection ids that this end takes: each is the one that goes next, and they fit into the room.
-use Rattle.std.proofs.Common.{◌≡◌, ℕ, ◌+◌, ◌-◌, ◌^◌, ◌<◌, ◌≤◌, List, [], ◌∷◌, ◌++◌, length, refl, ap, sym, ◌∙◌, subst, Bool, true, false, nat_lt, ◌&&◌, if◌then◌else◌, None, Some, arith, append_assoc, append-nil}
+use Rattle.std.proofs.Common.{◌≡◌, ℕ, ◌+◌, ◌-◌, ◌^◌, ◌<◌, ◌≤◌, List, [], ◌∷◌, ◌++◌, length, refl, ap, sym, ◌∙◌, subst, Bool, true, false, nat_lt, ◌&&◌, ◌||◌, if◌then◌else◌, None, Some, arith, append_assoc, append-nil}
 use Rattle.std.proofs.lemmas.Bool.Decides.{nat_tests}
 use Rattle.qc_base.specs.Varint.{varint}
 use Rattle.qc_base.specs.declared.ids.IssuedCid.{IssuedCid}
@@ -13,6 +13,8 @@ use Rattle.qc_frame.specs.declared.frames.FrameOf.TheVariants as frames
 use Rattle.qc_frame.specs.declared.frames.NewConnectionId.{NewConnectionId}
 use Rattle.qc_frame.proofs.Lengths.{length-new_connection_id, length-retire_connection_id}
 use Rattle.qc_state.specs.Ids.{AllNext, sealed_cids}
+use Rattle.qc_state.specs.Offers.{ids_offer}
+use Rattle.std.specs.Option.{is_some}
 use Rattle.qc_state.specs.Taking.{AreOfIds, TakesIds}
 use Rattle.qc_state.proofs.IdSteps.{cids_append, next_append}
 use Rattle.qc_state.proofs.IdsSettled.{after_append}
@@ -114,3 +116,16 @@ told_size new fits = omega (arith, length-new_connection_id new, fits.4)
 
 pub retired_size : (n : ℕ) → length (spelling (frames.RetireConnectionId n)) ≡ 1 + length (varint n)
 retired_size n = length-retire_connection_id n
+
+-- ---- nothing is left
+
+-- a number that is retired leaves the ids that are to be told
+pub told_stays : (n : ℕ) (s : ConnectionIds) → next_told (after_step (RetireSealed n) s) ≡ next_told s
+unfolding next_told after_step
+told_stays n s = refl
+
+-- where neither is left that has room, none is
+pub none_left : (more left : ℕ) (d1 d2 : ConnectionIds) (gs hs : List FrameValue) → (64 ≤ more → next_told d1 ≡ None) → TakesIds more d1 d2 gs hs left → (64 ≤ left → next_retired d2 ≡ None) → next_told d2 ≡ next_told d1 →
+    64 ≤ left → ids_offer d2 ≡ false
+none_left more left d1 d2 gs hs told takes retired rest enough =
+    λ i. is_some ((rest ∙ told (omega (arith, takes.fits, enough))) i) || is_some ((retired enough) i)

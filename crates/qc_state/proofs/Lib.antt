@@ -9,6 +9,7 @@ pub mod IdsTaken
 pub mod KeptFrames
 pub mod AckLemmas
 pub mod Batches
+pub mod Controls
 pub mod Begun
 pub mod Expansions
 pub mod Ends
@@ -18,6 +19,7 @@ pub mod OffersTaken
 pub mod OpenPackets
 pub mod PacketMoves
 pub mod Probed
+pub mod Probing
 pub mod Progresses
 pub mod Quieted
 pub mod ReceivedMoves

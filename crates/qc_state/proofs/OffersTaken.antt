@@ -1,5 +1,5 @@
 -- The frames that the layers below offer and this end takes: those of the streams, about connection ids and DATAGRAMs, one behind the other.
-use Rattle.std.proofs.Common.{◌≡◌, ℕ, List, [], ◌∷◌, ◌++◌, refl, ap, sym, ◌∙◌, subst, Bool, true, arith, append_assoc, append-nil}
+use Rattle.std.proofs.Common.{◌≡◌, ℕ, ◌<◌, ◌≤◌, List, [], ◌∷◌, ◌++◌, refl, ap, sym, ◌∙◌, subst, Bool, true, false, ◌||◌, None, arith, append_assoc, append-nil}
 use Rattle.std.specs.Prelude.{Result, Ok, Err, IfOk}
 use Rattle.qc_cids.specs.Steps as ids
 use Rattle.qc_cids.specs.declared.connection_ids.ConnectionIds.{ConnectionIds}
@@ -10,11 +10,15 @@ use Rattle.qc_frame.specs.declared.frames.FrameOf.TheVariants as frames
 use Rattle.qc_state.specs.Datagrams.{AllOldest, sealed_datagrams}
 use Rattle.qc_state.specs.Ids.{AllNext, sealed_cids}
 use Rattle.qc_state.specs.Lower.{datagrams_stepped, frames_sealed, ids_stepped, streams_stepped}
+use Rattle.qc_state.specs.Offers.{ids_offer, streams_offer, turn_waits}
 use Rattle.qc_state.specs.StreamFrames.{sealed_steps}
 use Rattle.qc_state.specs.Taking.{AreDatagrams, AreOfIds, AreOffered, AreOfStreams, TakesDatagrams, TakesIds, TakesOffered, TakesStreams, is_offered_frame, is_streams_frame}
 use Rattle.qc_state.specs.declared.lower.Lower.{Lower}
 use Rattle.qc_streams.proofs.StepsLaw.{after_append, may_append}
+use Rattle.qc_streams.specs.Control.{next_control}
 use Rattle.qc_streams.specs.Steps.{AllMay}
+use Rattle.qc_turns.specs.Ready.{next_turn}
+use Rattle.std.specs.Option.{is_some}
 use Rattle.qc_streams.specs.Waits.{Step, after}
 use Rattle.qc_streams.specs.declared.state.StreamsState.{StreamsState}
 use Rattle.qc_state.proofs.DatagramSteps.{datagrams_append, oldest_append, oldest_none, posts_append}
@@ -226,3 +230,16 @@ module _ {S : Type 0} where
       (offers_both true more rest n l1 l2 (record l3 { streams = s2 }) gs hs js (offers_ids more rest l1 c gs hs cids)
       (offers_both true rest left n l2 l3 (record l3 { streams = s2 }) hs ks js (offers_datagrams rest left l2 d hs ks posts) (offers_streams left n l3 s2 ks js parts))))
   offers_all in_data room more rest left l s1 s2 c d fs gs hs ks js (Err e) is controls cids posts parts = tt
+
+-- where what was taken leaves 64 bytes of the room, none of the layers offers a frame any more, of the answers of the calls that take them
+pub offers_full : {E : Type 0} (in_data : Bool) (more rest left : ℕ) (s1 s2 : StreamsState) (c c0 : ConnectionIds) (d d0 : Datagrams) (gs hs ks js : List FrameValue) (r : Result ℕ E) → (64 ≤ more → next_control 64 s1 ≡ None) →
+    TakesIds more c0 c gs hs rest → (64 ≤ rest → ids_offer c ≡ false) → TakesDatagrams rest d0 d hs ks left → IfOk r (λ n. TakesStreams true left s1 s2 ks js n) → IfOk r (λ n. 19 < n → turn_waits (next_turn s2.waiting.ready) s2 ≡ false) →
+    IfOk r (λ n. next_control 64 s2 ≡ next_control 64 s1) → IfOk r (λ n. in_data ≡ true → 64 ≤ n → (streams_offer s2 || ids_offer c) ≡ false)
+offers_full in_data more rest left s1 s2 c c0 d d0 gs hs ks js (Ok n) controls cids ids posts parts turn same = λ e enough.
+    let few : n ≤ left = omega (arith, parts.fits) in
+    let less : left ≤ rest = omega (arith, posts.fits) in
+    let control : next_control 64 s2 ≡ None = same ∙ controls (omega (arith, enough, few, less, cids.fits)) in
+    let none : turn_waits (next_turn s2.waiting.ready) s2 ≡ false = turn (omega (arith, enough)) in
+    let nothing : ids_offer c ≡ false = ids (omega (arith, enough, few, less)) in
+    λ i. (is_some (control i) || none i) || nothing i
+offers_full in_data more rest left s1 s2 c c0 d d0 gs hs ks js (Err e) controls cids ids posts parts turn same = tt

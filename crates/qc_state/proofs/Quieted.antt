@@ -5,7 +5,9 @@ use Rattle.qc_state.specs.declared.deeds.Quiet.TheVariants.{NothingOwed, Silent,
 use Rattle.qc_state.specs.declared.paths.Paths.{Paths}
 use Rattle.qc_state.specs.declared.transmit.Batch.{Batch}
 use Rattle.qc_state.specs.Moves.{move_to, paths_move, state_move}
-use Rattle.qc_state.specs.Paths.{is_blocked, path_quiet}
+use Rattle.qc_base.specs.Time.{plus}
+use Rattle.qc_path.specs.Mtu.{probe_sent}
+use Rattle.qc_state.specs.Paths.{is_blocked, path_probed, path_quiet}
 use Rattle.qc_state.specs.Sending.{held_after}
 use Rattle.qc_state.specs.Types.{Types, Meaning}
 use Rattle.qc_state.specs.View.{At}
@@ -37,6 +39,26 @@ quiet_blocked p Amplification = refl
 quiet_blocked p Congestion = refl
 quiet_blocked p Pacing = refl
 quiet_blocked p Killed = refl
+
+-- a probe of the path's size leaves the path as it is, but for the bytes that were sent and its search, and the id that the peer chose
+pub probed_current : {C : Type 0} → (p : Paths C) (time n bytes : ℕ) (q : Quiet) →
+    (path_probed p time n bytes q).current ≡ record p.current { sent = plus p.current.sent bytes; kept = record p.current.kept { mtud = probe_sent time n p.current.kept.mtud } }
+unfolding path_probed path_quiet
+probed_current p time n bytes NothingOwed = refl
+probed_current p time n bytes Silent = refl
+probed_current p time n bytes Amplification = refl
+probed_current p time n bytes Congestion = refl
+probed_current p time n bytes Pacing = refl
+probed_current p time n bytes Killed = refl
+
+pub probed_chosen : {C : Type 0} → (p : Paths C) (time n bytes : ℕ) (q : Quiet) → (path_probed p time n bytes q).peer_cid ≡ p.peer_cid
+unfolding path_probed path_quiet
+probed_chosen p time n bytes NothingOwed = refl
+probed_chosen p time n bytes Silent = refl
+probed_chosen p time n bytes Amplification = refl
+probed_chosen p time n bytes Congestion = refl
+probed_chosen p time n bytes Pacing = refl
+probed_chosen p time n bytes Killed = refl
 
 -- so do those of a transmit that the pacer may hold back
 module _ {t : Types} where

@@ -1,6 +1,7 @@
 -- The frames of streams that this end takes: each is one of their steps that may be, and they fit into the room.
-use Rattle.std.proofs.Common.{◌≡◌, ℕ, ◌+◌, ◌-◌, ◌%◌, ◌<◌, ◌≤◌, List, [], ◌∷◌, ◌++◌, length, refl, ap, sym, ◌∙◌, subst, Bool, true, false, nat_le, nat_lt, ◌&&◌, ◌==◌, if◌then◌else◌, Option, None, Some, arith, length-append}
+use Rattle.std.proofs.Common.{◌≡◌, ℕ, ◌+◌, ◌-◌, ◌%◌, ◌<◌, ◌≤◌, List, [], ◌∷◌, ◌++◌, length, refl, ap, sym, ◌∙◌, subst, Bool, true, false, nat_le, nat_lt, ◌&&◌, ◌||◌, not, ◌==◌, if◌then◌else◌, Option, None, Some, arith, length-append}
 use Rattle.std.specs.Option.{option_map, is_some}
+use Rattle.std.proofs.lemmas.Bool.{false≢true}
 use Rattle.std.proofs.lemmas.Bool.Decides.{nat_tests}
 use Rattle.std.proofs.lemmas.Grind.{flat_map-append}
 use Rattle.std.proofs.lemmas.List.{append_assoc, append-nil}
@@ -10,15 +11,18 @@ use Rattle.qc_frame.specs.Frame.{FrameValue}
 use Rattle.qc_frame.specs.FrameFits.{Fits}
 use Rattle.qc_frame.specs.FrameSpelling.{frames_spelling, has_offset, offset_spelling, spelling, stream_type}
 use Rattle.qc_frame.specs.declared.frames.FrameOf.TheVariants as frames
-use Rattle.qc_send_stream.specs.Buffer.{part_bytes}
-use Rattle.qc_send_stream.specs.Sending.{IsOffer, part_of as part_with}
+use Rattle.qc_send_stream.specs.Buffer.{has_bytes, part_bytes, waiting}
+use Rattle.qc_send_stream.specs.Sending.{IsOffer, end_waits, has_more, part_of as part_with}
 use Rattle.qc_send_stream.specs.declared.send.Part.{Part}
 use Rattle.qc_send_stream.specs.declared.send.SendPart.{SendPart}
+use Rattle.qc_state.specs.Offers.{turn_waits}
 use Rattle.qc_state.specs.StreamFrames.{control_of, sealed_step, sealed_steps}
 use Rattle.qc_state.specs.Taking.{AreOfStreams, TakesStreams, is_streams_frame}
 use Rattle.qc_streams.proofs.StepsLaw.{after_append, drawn_offers, may_append, next_owes}
 use Rattle.qc_streams.specs.Carried.{IsAnswered}
 use Rattle.qc_streams.specs.Control.{control_len, control_sealed, credit_of, data_with, gone_stop, if_fits, next_control, of_first, or_else, reset_of, stop_of, streams_with}
+use Rattle.qc_streams.specs.Pending.{bytes_wait}
+use Rattle.qc_streams.specs.Queues.{dues_at, dues_of, owes_data}
 use Rattle.qc_streams.specs.Owed.{max_data_owed, max_streams_owed}
 use Rattle.qc_streams.specs.Records.{record_of}
 use Rattle.qc_streams.specs.Steps.{AllMay, IsOffered, IsOwed, IsSealedSo, MayStep}
@@ -31,6 +35,7 @@ use Rattle.qc_streams.specs.declared.parts.StreamPart.{StreamPart}
 use Rattle.qc_streams.specs.declared.state.StreamsState.{StreamsState}
 use Rattle.qc_streams.specs.declared.stream.Stream.{Stream}
 use Rattle.qc_turns.specs.Ids.{first_id}
+use Rattle.qc_turns.specs.Ready.{next_turn}
 use Rattle.qc_state.proofs.SealedSteps.{sealed_append}
 
 -- ---- frames, one behind the other
@@ -65,7 +70,7 @@ takes_both in_data room left left' s s1 s2 fs gs hs first behind =
 
 -- a frame is taken
 takes_step : (room left : ℕ) (s s' : StreamsState) (fs gs : List FrameValue) (f : FrameValue) (x : Step) → is_streams_frame f ≡ true → Fits f → sealed_step f ≡ x ∷ [] → MayStep x s → s' ≡ after_step x s → gs ≡ fs ++ f ∷ [] →
-    length (spelling f) + left ≤ room → TakesStreams true room s s' fs gs left
+    length (spelling f) + left ≡ room → TakesStreams true room s s' fs gs left
 unfolding sealed_steps after AllMay
 takes_step room left s s' fs gs f x is numbers step may leads list fits =
     let steps : sealed_steps (f ∷ []) ≡ x ∷ [] = append-nil (sealed_step f) ∙ step in
@@ -75,7 +80,7 @@ takes_step room left s s' fs gs f x is numbers step may leads list fits =
       may = subst (λ (xs : List Step). AllMay xs s) (sym steps) (may, tt);
       leads = leads ∙ sym (ap (λ (xs : List Step). after xs s) steps);
       list = list;
-      fits = subst (λ (n : ℕ). n + left ≤ room) (sym (ap length (append-nil (spelling f)))) fits;
+      fits = subst (λ (n : ℕ). n + left ≡ room) (sym (ap length (append-nil (spelling f)))) fits;
     }
 
 -- ---- frames without bytes of a stream
@@ -224,7 +229,7 @@ type_by false true = refl
 type_by false false = refl
 
 -- the head of a STREAM frame has at most 19
-stream_short : (id offset : ℕ) (fin : Bool) (body : List ℕ) → length body ≤ 16383 → length (spelling (frames.Stream id offset fin body)) ≤ 19 + length body
+pub stream_short : (id offset : ℕ) (fin : Bool) (body : List ℕ) → length body ≤ 16383 → length (spelling (frames.Stream id offset fin body)) ≤ 19 + length body
 unfolding spelling
 stream_short id offset fin body few =
     simp (length-append, type_by (has_offset offset) fin)
@@ -298,13 +303,72 @@ part_may : (d : StreamPart) (s : StreamsState) → IsOffered d s → MayStep (Pa
 unfolding IsPossible IsTaken IsAnswered IsSealedSo
 part_may d s offered = record { possible = tt; taken = tt; answered = tt; sealed = offered }
 
+-- how many bytes a STREAM frame has
+pub part_size : (id offset : ℕ) (fin : Bool) (body : List ℕ) → length (spelling (frames.Stream id offset fin body)) ≡ 1 + length (varint id) + length (offset_spelling offset) + length (varint (length body)) + length body
+unfolding spelling
+part_size id offset fin body = simp (length-append, type_by (has_offset offset) fin) (omega arith)
+
+-- the STREAM frame with a part
+abbrev pub frame_with : StreamPart → FrameValue
+frame_with d = frames.Stream d.id d.part.offset d.part.last d.part.bytes
+
 -- one STREAM frame more is taken
-pub part_taken : (room left within : ℕ) (s s1 s2 : StreamsState) (fs gs hs : List FrameValue) (f : FrameValue) (d : StreamPart) → TakesStreams true room s s1 fs gs left → within ≤ left → within ≤ 16383 → IsDrawn within s1 (Some d) →
-    s2 ≡ sealed_part d s1 → f ≡ frames.Stream d.id d.part.offset d.part.last d.part.bytes → Fits f → hs ≡ gs ++ f ∷ [] → TakesStreams true room s s2 fs hs (left - (19 + length d.part.bytes))
+pub part_taken : (room left within size : ℕ) (s s1 s2 : StreamsState) (fs gs hs : List FrameValue) (f : FrameValue) (d : StreamPart) → TakesStreams true room s s1 fs gs left → within ≤ left → within ≤ 16383 → IsDrawn within s1 (Some d) →
+    s2 ≡ sealed_part d s1 → f ≡ frame_with d → Fits f → hs ≡ gs ++ f ∷ [] → size ≡ length (spelling (frame_with d)) → TakesStreams true room s s2 fs hs (left - size)
 unfolding after_step
-part_taken room left within s s1 s2 fs gs hs f d before less few drawn leads frame numbers list =
-    let g : FrameValue = frames.Stream d.id d.part.offset d.part.last d.part.bytes in
+part_taken room left within size s s1 s2 fs gs hs f d before less few drawn leads frame numbers list is_size =
+    let g : FrameValue = frame_with d in
     let fits : 19 + length d.part.bytes ≤ within = drawn_within within s1 d drawn in
     let short : length (spelling g) ≤ 19 + length d.part.bytes = stream_short d.id d.part.offset d.part.last d.part.bytes (omega arith) in
-    takes_both true room left (left - (19 + length d.part.bytes)) s s1 s2 fs gs hs before
-    (takes_step left (left - (19 + length d.part.bytes)) s1 s2 gs hs g (PartSealed d) refl (subst Fits frame numbers) refl (part_may d s1 (drawn_offers within s1 d drawn)) leads (list ∙ ap (λ (x : FrameValue). gs ++ x ∷ []) frame) (omega arith))
+    takes_both true room left (left - size) s s1 s2 fs gs hs before
+    (takes_step left (left - size) s1 s2 gs hs g (PartSealed d) refl (subst Fits frame numbers) refl (part_may d s1 (drawn_offers within s1 d drawn)) leads (list ∙ ap (λ (x : FrameValue). gs ++ x ∷ []) frame) (omega (arith, is_size, short, fits, less)))
+
+-- ---- nothing is left
+
+-- where bytes of a sending side wait, or its end, a part is offered
+second : (a b : Bool) → false ≡ a → (a || b) ≡ true → b ≡ true
+second true b never is = absurd (false≢true never)
+second false b never is = is
+
+alone : (b : Bool) (x : Part) → b ≡ true → ◌≡◌ {A = Option Part} None (if b then Some x else None) → ⊥
+alone true x is none = cc
+alone false x is none = false≢true is
+
+none_offered : (most : ℕ) (p : SendPart) → IsOffer most p None → has_more p ≡ true → ⊥
+unfolding has_more IsOffer
+none_offered most p offer more = by (is_some p.reset) offer.0 more offer.1.given offer.2
+  where
+    by : (reset : Bool) (bytes : Option (ℕ × List ℕ)) → (not reset && (has_bytes (waiting p.buffer) || end_waits p.end)) ≡ true → is_some bytes ≡ has_bytes (waiting p.buffer) →
+        ◌≡◌ {A = Option Part} None (if reset then None else part_with bytes p) → ⊥
+    by true bytes more given is = false≢true more
+    by false (Some x) more given is = cc
+    by false None more given is = alone (end_waits p.end) (record { offset = p.buffer.written; bytes = []; last = true }) (second (has_bytes (waiting p.buffer)) (end_waits p.end) given more) is
+
+-- so where none is, nothing of it waits
+offer_none : (most : ℕ) (o : Option Stream) (b : Bool) → (dues_at o).bytes ≡ b → IsOfferAt most o None → b ≡ false
+unfolding IsOfferAt IsOfferOf dues_of
+offer_none most o false is offer = refl
+offer_none most None true is offer = absurd (false≢true is)
+offer_none most (Some st) true is offer = absurd (by st.sending is offer)
+  where
+    by : (p : Option SendPart) → owes_data p ≡ true → IsOfferOf most p None → ⊥
+    by None is offer = false≢true is
+    by (Some p) is offer = none_offered most p offer is
+
+turn_none : (most : ℕ) (turn : Option ℕ) (s : StreamsState) → IsTurn most turn s None → turn_waits turn s ≡ false
+unfolding IsTurn
+turn_none most None s drawn = refl
+turn_none most (Some id) s drawn = by drawn.0 drawn.1 drawn.2
+  where
+    by : (o : Option Part) → IsOfferAt most (record_of id s.records) o → None ≡ option_map (part_on id) o → bytes_wait s id ≡ false
+    by None offers is = offer_none most (record_of id s.records) (bytes_wait s id) refl offers
+    by (Some part) offers is = cc
+
+room_none : (b : Bool) (room : ℕ) (turn : Option ℕ) (s : StreamsState) → nat_lt 19 room ≡ b → IsTurn (room - 19) (if b then turn else None) s None → 19 < room → turn_waits turn s ≡ false
+room_none true room turn s test drawn large = turn_none (room - 19) turn s drawn
+room_none false room turn s test drawn large = absurd (grind (arith, nat_tests))
+
+-- where no part is drawn though there is room, none waits of the stream whose turn it is
+pub drawn_none : (room : ℕ) (s : StreamsState) → IsDrawn room s None → 19 < room → turn_waits (next_turn s.waiting.ready) s ≡ false
+unfolding IsDrawn
+drawn_none room s drawn large = room_none (nat_lt 19 room) room (next_turn s.waiting.ready) s refl drawn large

@@ -1,13 +1,15 @@
 -- The frames that this end takes, from the parts in which they are taken.
-use Rattle.std.proofs.Common.{◌≡◌, ℕ, ◌+◌, ◌-◌, ◌<◌, ◌≤◌, ◌⊎◌, inl, List, [], ◌∷◌, ◌++◌, length, refl, ap, sym, ◌∙◌, subst, Bool, true, false, if◌then◌else◌, Option, arith}
+use Rattle.std.proofs.Common.{◌≡◌, ℕ, ◌+◌, ◌-◌, ◌<◌, ◌≤◌, ◌⊎◌, inl, List, [], ◌∷◌, ◌++◌, length, length-append, refl, ap, sym, ◌∙◌, subst, Bool, true, false, ◌||◌, ◌&&◌, if◌then◌else◌, Option, arith}
 use Rattle.std.proofs.lemmas.List.{append_assoc, append-nil}
 use Rattle.qc_frame.specs.AckRanges.{ArePackets}
 use Rattle.qc_frame.specs.Frame.{AckValue, FrameValue}
 use Rattle.qc_frame.specs.declared.frames.FrameOf.TheVariants as frames
-use Rattle.qc_frame.specs.FrameSpelling.{frames_spelling}
+use Rattle.qc_frame.specs.FrameSpelling.{frames_spelling, spelling}
+use Rattle.qc_frame.proofs.Lengths.{length-crypto}
+use Rattle.qc_base.specs.Varint.{varint}
 use Rattle.qc_frame.specs.declared.frames.FrameOf.TheVariants.{HandshakeDone, Ping}
 use Rattle.qc_path.specs.Acks.{PendingValues}
-use Rattle.qc_send_stream.specs.Buffer.{Buffer, range_sealed}
+use Rattle.qc_send_stream.specs.Buffer.{Buffer, has_bytes, range_sealed, waiting}
 use Rattle.qc_state.specs.Acks.{AckPart, SaysAck, ack_sent, is_ack_first, is_ack_last, is_ack_owed}
 use Rattle.qc_state.specs.StreamFrames.{sealed_steps}
 use Rattle.qc_cids.specs.Steps as ids
@@ -17,8 +19,9 @@ use Rattle.qc_datagrams.specs.declared.datagrams.Datagrams.{Datagrams}
 use Rattle.qc_state.specs.Datagrams.{AllOldest, sealed_datagrams}
 use Rattle.qc_state.specs.Ids.{AllNext, sealed_cids}
 use Rattle.qc_state.specs.Lower.{frames_sealed}
-use Rattle.qc_state.specs.Taking.{AreOffered, CryptoPart, TakenPart, TakesAck, TakesCrypto, TakesOffered, marks_part, done_part, ping_part, room_behind}
-use Rattle.qc_state.specs.Waiting.{StartsWith, crypto_waits, without, without_all}
+use Rattle.qc_state.specs.Taking.{AreOffered, CryptoPart, TakenPart, TakesAck, TakesCrypto, TakesOffered, marks_part, done_part, ping_part}
+use Rattle.qc_state.specs.Offers.{ids_offer, offers_here, streams_offer}
+use Rattle.qc_state.specs.Waiting.{StartsWith, crypto_waits, wants_here, without, without_all}
 use Rattle.qc_state.specs.declared.lower.Lower.{Lower}
 use Rattle.qc_state.specs.declared.waiting.SpaceWaiting.{SpaceWaiting}
 use Rattle.qc_state.proofs.AckLemmas.{none_due, not_both, part_same}
@@ -26,6 +29,7 @@ use Rattle.qc_state.proofs.DatagramSteps.{behind_none, datagrams_ack, datagrams_
 use Rattle.qc_state.proofs.IdSteps.{behind_no_cid, cids_ack, cids_append, next_first, no_cid_before, no_cid_behind}
 use Rattle.qc_state.proofs.OffersTaken.{sealed_same}
 use Rattle.qc_state.proofs.SealedSteps.{sealed_ack, sealed_append}
+use Rattle.qc_state.proofs.StreamsTaken.{spelled_append}
 use Rattle.qc_streams.specs.Waits.{Step}
 
 -- what waits once joined lists are sealed
@@ -329,7 +333,7 @@ taken_part time room count less most rest more left len len' bundled first last 
       own = streams.own;
       offered = streams.are;
       left = left;
-      fits = subst (λ (n : ℕ). length (frames_spelling streams.own) + left ≤ n) (crypto.behind ∙ ap (λ (n : ℕ). room_behind n crypto.frames) size) streams.fits;
+      fits = omega (arith, size, crypto.fits, streams.fits);
       last = bundle.acks;
       bundle = behind_all;
       all = parts_list w fs0 fs1 fs2 fs3 fs4 fs5 takes.acks crypto.frames streams.own bundle.acks is_fs0 is_fs1 takes.list crypto.list streams.list bundle.list;
@@ -384,32 +388,44 @@ own_next time bundled in_data w room fs d taken h =
 -- no CRYPTO bytes wait, or there is no room for them
 pub crypto_none : (room : ℕ) (w : SpaceWaiting) (fs : List FrameValue) → (crypto_waits w ≡ false) ⊎ (room ≤ 17) → TakesCrypto room w w fs fs room
 unfolding without_all CryptoPart
-crypto_none room w fs why = record { frames = []; part = why; list = sym (append-nil fs); rest = refl; behind = refl }
+crypto_none room w fs why = record { frames = []; part = why; list = sym (append-nil fs); rest = refl; fits = omega arith }
 
 -- none wait, of the answer of the call that takes them
 pub crypto_end : (room : ℕ) (w : SpaceWaiting) (queue : Buffer) (fs : List FrameValue) → crypto_waits w ≡ false → queue ≡ w.crypto → TakesCrypto room w (record w { crypto = queue }) fs fs room
 crypto_end room w queue fs none same = subst (λ (x : Buffer). TakesCrypto room w (record w { crypto = x }) fs fs room) (sym same) (crypto_none room w fs (inl none))
 
+-- how many bytes a CRYPTO frame has
+pub crypto_size : (offset : ℕ) (body : List ℕ) → length (spelling (frames.Crypto offset body)) ≡ 1 + length (varint offset) + length (varint (length body)) + length body
+crypto_size offset body = length-crypto offset body
+
 -- those that wait first are taken, and others behind them
-pub crypto_more : (room left : ℕ) (w w1 w' : SpaceWaiting) (fs fs1 gs : List FrameValue) (offset : ℕ) (body : List ℕ) → StartsWith w.crypto offset body → length body + 17 ≤ room →
-    w1 ≡ record w { crypto = range_sealed offset (offset + length body) w.crypto } → fs1 ≡ fs ++ frames.Crypto offset body ∷ [] → TakesCrypto (room - (length body + 17)) w1 w' fs1 gs left →
+pub crypto_more : (room size left : ℕ) (w w1 w' : SpaceWaiting) (fs fs1 gs : List FrameValue) (offset : ℕ) (body : List ℕ) → StartsWith w.crypto offset body → size ≡ length (spelling (frames.Crypto offset body)) → size ≤ room →
+    w1 ≡ record w { crypto = range_sealed offset (offset + length body) w.crypto } → fs1 ≡ fs ++ frames.Crypto offset body ∷ [] → TakesCrypto (room - size) w1 w' fs1 gs left →
     TakesCrypto room w w' fs gs left
 unfolding without_all without CryptoPart
-crypto_more room left w w1 w' fs fs1 gs offset body starts fits is_w1 is_fs1 takes = record {
-  frames = frames.Crypto offset body ∷ takes.frames;
-  part = (starts, fits, subst (λ (x : SpaceWaiting). CryptoPart x (room - (length body + 17)) takes.frames) is_w1 takes.part);
-  list = takes.list ∙ ap (λ (x : List FrameValue). x ++ takes.frames) is_fs1 ∙ append_assoc fs (frames.Crypto offset body ∷ []) takes.frames;
-  rest = takes.rest ∙ ap (λ (x : SpaceWaiting). without_all x takes.frames) is_w1;
-  behind = takes.behind;
-}
+crypto_more room size left w w1 w' fs fs1 gs offset body starts is_size fits is_w1 is_fs1 takes =
+    let f : FrameValue = frames.Crypto offset body in
+    let whole : length (frames_spelling (f ∷ takes.frames)) ≡ length (spelling f) + length (frames_spelling takes.frames) = length-append (spelling f) (frames_spelling takes.frames) in
+    record {
+      frames = f ∷ takes.frames;
+      part = (
+        starts,
+        subst (λ (n : ℕ). n ≤ room) is_size fits,
+        subst (λ (n : ℕ). CryptoPart (record w { crypto = range_sealed offset (offset + length body) w.crypto }) (room - n) takes.frames) is_size
+            (subst (λ (x : SpaceWaiting). CryptoPart x (room - size) takes.frames) is_w1 takes.part),
+      );
+      list = takes.list ∙ ap (λ (x : List FrameValue). x ++ takes.frames) is_fs1 ∙ append_assoc fs (f ∷ []) takes.frames;
+      rest = takes.rest ∙ ap (λ (x : SpaceWaiting). without_all x takes.frames) is_w1;
+      fits = omega (arith, whole, is_size, fits, takes.fits);
+    }
 
 -- the same, of the answers of the calls that take them
-pub crypto_taken : (room len left : ℕ) (w w' : SpaceWaiting) (fs fs1 gs : List FrameValue) (queue : Buffer) (offset : ℕ) (bytes slice body : List ℕ) → 17 < room → StartsWith w.crypto offset bytes → length bytes ≤ room - 17 →
-    queue ≡ range_sealed offset (offset + length bytes) w.crypto → len ≡ length bytes → slice ≡ bytes → body ≡ slice → fs1 ≡ fs ++ frames.Crypto offset body ∷ [] →
-    TakesCrypto (room - (len + 17)) (record w { crypto = queue }) w' fs1 gs left → TakesCrypto room w w' fs gs left
-crypto_taken room len left w w' fs fs1 gs queue offset bytes slice body some starts fits is_queue is_len is_slice is_body is_fs1 takes =
-    crypto_more room left w (record w { crypto = queue }) w' fs fs1 gs offset bytes starts (omega (arith, some, fits)) (ap (λ (x : Buffer). record w { crypto = x }) is_queue)
-    (is_fs1 ∙ ap (λ (x : List ℕ). fs ++ frames.Crypto offset x ∷ []) (is_body ∙ is_slice)) (subst (λ (n : ℕ). TakesCrypto (room - (n + 17)) (record w { crypto = queue }) w' fs1 gs left) is_len takes)
+pub crypto_taken : (room size left : ℕ) (w w' : SpaceWaiting) (fs fs1 gs : List FrameValue) (queue : Buffer) (offset : ℕ) (bytes slice body : List ℕ) → StartsWith w.crypto offset bytes →
+    size ≡ length (spelling (frames.Crypto offset bytes)) → size ≤ room → queue ≡ range_sealed offset (offset + length bytes) w.crypto → slice ≡ bytes → body ≡ slice → fs1 ≡ fs ++ frames.Crypto offset body ∷ [] →
+    TakesCrypto (room - size) (record w { crypto = queue }) w' fs1 gs left → TakesCrypto room w w' fs gs left
+crypto_taken room size left w w' fs fs1 gs queue offset bytes slice body starts is_size fits is_queue is_slice is_body is_fs1 takes =
+    crypto_more room size left w (record w { crypto = queue }) w' fs fs1 gs offset bytes starts is_size fits (ap (λ (x : Buffer). record w { crypto = x }) is_queue)
+    (is_fs1 ∙ ap (λ (x : List ℕ). fs ++ frames.Crypto offset x ∷ []) (is_body ∙ is_slice)) takes
 
 -- no ACK is due, and none is taken
 pub takes_none : (time room : ℕ) (due : Bool) (w w' : SpaceWaiting) (fs gs : List FrameValue) (len : ℕ) → due ≡ false → w' ≡ w → gs ≡ fs → len ≡ 0 → TakesAck time due room w w' fs gs len
@@ -431,3 +447,108 @@ unfolding without_all without
 takes_one time room false w w' fs gs len ack e says fits is_gs is_w is_len = cc
 takes_one time room true w w' fs gs len ack e says fits is_gs is_w is_len =
     record { acks = frames.Ack ack ∷ []; part = AckPart.one ack says (subst (λ (n : ℕ). n ≤ room) is_len fits) refl; list = is_gs; rest = is_w; size = is_len }
+
+-- ---- nothing is left that has room
+
+-- one frame, or none
+abbrev if_so : Bool → FrameValue → List FrameValue
+if_so b f = if b then f ∷ [] else []
+
+-- a HANDSHAKE_DONE and a PING have a byte each
+marks_size_by : (a b : Bool) → length (frames_spelling (if_so a HandshakeDone ++ if_so b Ping)) ≡ length (if_so a HandshakeDone ++ if_so b Ping)
+unfolding spelling varint
+marks_size_by true true = refl
+marks_size_by true false = refl
+marks_size_by false true = refl
+marks_size_by false false = refl
+
+pub marks_size : (w : SpaceWaiting) → length (frames_spelling (marks_part w)) ≡ length (marks_part w)
+unfolding marks_part done_part ping_part
+marks_size w = marks_size_by w.done w.ping
+
+-- they wait no longer once they were taken
+marks_gone_by : (w : SpaceWaiting) (a b : Bool) → w.done ≡ a → w.ping ≡ b →
+    ((without_all w (if_so a HandshakeDone ++ if_so b Ping)).done ≡ false) × ((without_all w (if_so a HandshakeDone ++ if_so b Ping)).ping ≡ false)
+unfolding without_all without
+marks_gone_by w true true e f = (refl, refl)
+marks_gone_by w true false e f = (refl, f)
+marks_gone_by w false true e f = (e, refl)
+marks_gone_by w false false e f = (e, f)
+
+marks_gone : (w : SpaceWaiting) → ((without_all w (marks_part w)).done ≡ false) × ((without_all w (marks_part w)).ping ≡ false)
+unfolding marks_part done_part ping_part
+marks_gone w = marks_gone_by w w.done w.ping refl refl
+
+-- an ACK leaves the marks, and the CRYPTO bytes
+record LeavesMarks (w v : SpaceWaiting) : Type 0 where
+  done : v.done ≡ w.done
+  ping : v.ping ≡ w.ping
+
+ack_leaves : (time room : ℕ) (w : SpaceWaiting) (fs : List FrameValue) (b : Bool) → AckPart time w room fs b → LeavesMarks w (without_all w fs) × ((without_all w fs).crypto ≡ w.crypto)
+unfolding without_all without
+ack_leaves time room w fs true (AckPart.one ack says fits is) =
+    (record { done = ap (λ (x : List FrameValue). (without_all w x).done) is; ping = ap (λ (x : List FrameValue). (without_all w x).ping) is }, ap (λ (x : List FrameValue). (without_all w x).crypto) is)
+ack_leaves time room w fs true (AckPart.left_out ack says long is) =
+    (record { done = ap (λ (x : List FrameValue). (without_all w x).done) is; ping = ap (λ (x : List FrameValue). (without_all w x).ping) is }, ap (λ (x : List FrameValue). (without_all w x).crypto) is)
+ack_leaves time room w fs false (AckPart.none is) =
+    (record { done = ap (λ (x : List FrameValue). (without_all w x).done) is; ping = ap (λ (x : List FrameValue). (without_all w x).ping) is }, ap (λ (x : List FrameValue). (without_all w x).crypto) is)
+
+-- CRYPTO frames leave the marks
+crypto_leaves : (w : SpaceWaiting) (room : ℕ) (fs : List FrameValue) → CryptoPart w room fs → LeavesMarks w (without_all w fs)
+unfolding without_all without CryptoPart
+crypto_leaves w room [] h = record { done = refl; ping = refl }
+crypto_leaves w room (frames.Crypto offset body ∷ fs) h =
+    let rest : LeavesMarks (without w (frames.Crypto offset body)) (without_all (without w (frames.Crypto offset body)) fs) = crypto_leaves (without w (frames.Crypto offset body)) _ fs h.2 in
+    record { done = rest.done; ping = rest.ping }
+crypto_leaves w room (_ ∷ fs) h = absurd h
+
+none_here : (a b c : Bool) → a ≡ false → b ≡ false → c ≡ false → (a || b || c) ≡ false
+none_here true b c e f g = cc
+none_here false true c e f g = cc
+none_here false false c e f g = g
+
+none_offered : (in_data a b : Bool) → a ≡ false → (in_data ≡ true → b ≡ false) → (a || (in_data && b)) ≡ false
+none_offered in_data true b e f = cc
+none_offered true false b e f = f refl
+none_offered false false b e f = refl
+
+-- what was taken, part by part, leaves no frame that has room where it leaves 64 bytes of the room
+pub taken_full : {S : Type 0} (time room count less most rest more left len len' : ℕ) (due due' in_data : Bool) (w w1 w2 w3 w4 : SpaceWaiting) (fs0 fs1 fs2 fs3 fs4 fs5 : List FrameValue) (l l' : Lower S) →
+    fs0 ≡ [] → fs1 ≡ fs0 ++ marks_part w → w1 ≡ without_all w (marks_part w) → count ≡ length (marks_part w) → less ≡ room - count → TakesAck time due most w1 w2 fs1 fs2 len → rest ≡ less - len →
+    TakesCrypto rest w2 w3 fs2 fs3 more → (17 < more → crypto_waits w3 ≡ false) → TakesOffered in_data more l l' fs3 fs4 left →
+    (in_data ≡ true → 64 ≤ left → (streams_offer l'.streams || ids_offer l'.ids) ≡ false) → TakesAck time due' left w3 w4 fs4 fs5 len' → 64 ≤ room - length (frames_spelling fs5) →
+    offers_here in_data w4 l'.streams l'.ids ≡ false
+taken_full time room count less most rest more left len len' due due' in_data w w1 w2 w3 w4 fs0 fs1 fs2 fs3 fs4 fs5 l l' is_fs0 is_fs1 is_w1 is_count is_less takes is_rest crypto bytes offered layers bundle spare =
+    let all : fs5 ≡ marks_part w ++ (takes.acks ++ (crypto.frames ++ (offered.own ++ bundle.acks))) =
+    parts_list w fs0 fs1 fs2 fs3 fs4 fs5 takes.acks crypto.frames offered.own bundle.acks is_fs0 is_fs1 takes.list crypto.list offered.list bundle.list in
+    let whole : length (frames_spelling fs5) ≡ length (frames_spelling (marks_part w ++ (takes.acks ++ (crypto.frames ++ (offered.own ++ bundle.acks))))) = ap (λ (x : List FrameValue). length (frames_spelling x)) all in
+    let enough : 64 ≤ left =
+    omega (
+      arith,
+      spare,
+      whole,
+      spelled_append (marks_part w) (takes.acks ++ (crypto.frames ++ (offered.own ++ bundle.acks))),
+      spelled_append takes.acks (crypto.frames ++ (offered.own ++ bundle.acks)),
+      spelled_append crypto.frames (offered.own ++ bundle.acks),
+      spelled_append offered.own bundle.acks,
+      marks_size w,
+      is_count,
+      is_less,
+      takes.size,
+      is_rest,
+      crypto.fits,
+      offered.fits,
+    ) in
+    let before = ack_leaves time most w1 takes.acks due takes.part in
+    let between = crypto_leaves w2 rest crypto.frames crypto.part in
+    let behind = ack_leaves time left w3 bundle.acks due' bundle.part in
+    let gone = marks_gone w in
+    let done : w4.done ≡ false =
+    ap (λ (x : SpaceWaiting). x.done) bundle.rest ∙ behind.0.done ∙ ap (λ (x : SpaceWaiting). x.done) crypto.rest ∙ between.done ∙ ap (λ (x : SpaceWaiting). x.done) takes.rest ∙ before.0.done
+    ∙ ap (λ (x : SpaceWaiting). x.done) is_w1 ∙ gone.0 in
+    let ping : w4.ping ≡ false =
+    ap (λ (x : SpaceWaiting). x.ping) bundle.rest ∙ behind.0.ping ∙ ap (λ (x : SpaceWaiting). x.ping) crypto.rest ∙ between.ping ∙ ap (λ (x : SpaceWaiting). x.ping) takes.rest ∙ before.0.ping
+    ∙ ap (λ (x : SpaceWaiting). x.ping) is_w1 ∙ gone.1 in
+    let queue : w4.crypto ≡ w3.crypto = ap (λ (x : SpaceWaiting). x.crypto) bundle.rest ∙ behind.1 in
+    let none : crypto_waits w4 ≡ false = ap (λ (x : Buffer). has_bytes (waiting x)) queue ∙ bytes (omega (arith, enough, offered.fits)) in
+    none_offered in_data (wants_here w4) (streams_offer l'.streams || ids_offer l'.ids) (none_here w4.done w4.ping (crypto_waits w4) done ping none) (λ e. layers e enough)

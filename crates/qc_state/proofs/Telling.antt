@@ -23,7 +23,7 @@ use Rattle.qc_state.specs.Keys.{epoch_in}
 use Rattle.qc_state.specs.Forms.{is_early, number_space}
 use Rattle.qc_state.specs.Headline.{sealed_in, reasons_in, lives_in, entered_number, entered_in, EachNew, came_with, CloseFrom, RisesFrom, Kernel, kernel_of, kernel_after, IsBehind, IsRight, Tells}
 use Rattle.qc_state.specs.Life.{rank_of, is_open, is_closed, is_drained, reason_given, life_raised, life_closed, life_drained, life_established, data_ready, token_learned, token_told, identifiers_wanted, retirement_told, ready_reported, connected_reported, datagram_heard, heard_reported, all_heard_reported, lost_reported, notice_reported, notices_reported, drained_reported}
-use Rattle.qc_state.specs.Moves.{Move, ClosesOnly, Clock, Ask, Take, Seal, Forget, Enter, Expect, Fail, Accept, Fix, Hear, Ack, Fire, Arm, Pace, Release, Begin, Skip, Come, Read, Write, Ready, Token, Learn, Want, Confirm, Establish, Tell, Hand, Insert, Switch, Retire, Issue, Outlive, Call, Post, PeerClosesToo, PeerCloses, Owe, IsTold, enters, Shut, Raise, Give, Say, ReportReady, ReportConnected, ReportHeard, ReportAllHeard, ReportStream, ReportStreams, ReportLost, ReportNotice, ReportNotices, ReportDrained, state_move, move_to, deeds_move, MayMove, told, arrival_of, numbers_move, life_move, timers_move, Spend, Hold, Finish}
+use Rattle.qc_state.specs.Moves.{Probe, Move, ClosesOnly, Clock, Ask, Take, Seal, Forget, Enter, Expect, Fail, Accept, Fix, Hear, Ack, Fire, Arm, Pace, Release, Begin, Skip, Come, Read, Write, Ready, Token, Learn, Want, Confirm, Establish, Tell, Hand, Insert, Switch, Retire, Issue, Outlive, Call, Post, PeerClosesToo, PeerCloses, Owe, IsTold, enters, Shut, Raise, Give, Say, ReportReady, ReportConnected, ReportHeard, ReportAllHeard, ReportStream, ReportStreams, ReportLost, ReportNotice, ReportNotices, ReportDrained, state_move, move_to, deeds_move, MayMove, told, arrival_of, numbers_move, life_move, timers_move, Spend, Hold, Finish}
 use Rattle.qc_state.specs.Numbers.{next_number, came_in, is_new_in, number_used, number_skipped, used_in, number_entered, number_accepted, number_acked}
 use Rattle.qc_state.specs.Numbers as numbers
 use Rattle.qc_state.specs.Recovering.{probe_timeout_now}
@@ -364,6 +364,7 @@ module _ {t : Types} where
   move_tells id (Spend tokens) s h = behind_here _
   move_tells id (Hold until) s h = behind_here _
   move_tells id (Finish bytes control) s h = behind_here _
+  move_tells id (Probe time n bytes q) s h = behind_here _
   move_tells id (Say q) s h = (tt, behind_here _)
   move_tells id ReportReady s h = behind_here _
   move_tells id ReportConnected s h = behind_here _
@@ -428,6 +429,7 @@ module _ {t : Types} where
   clock_kept (Spend tokens) s h = refl
   clock_kept (Hold until) s h = refl
   clock_kept (Finish bytes control) s h = refl
+  clock_kept (Probe time n bytes q) s h = refl
   clock_kept (Say q) s h = refl
   clock_kept ReportReady s h = refl
   clock_kept ReportConnected s h = refl

@@ -1,6 +1,6 @@
 -- What holds of each move of a transmit holds of the transmit, where of what the pacer spends and the controller is told is known what it
 -- is; and each packet that it seals holds a close, once the connection has closed.
-use Rattle.std.proofs.Common.{◌≡◌, ℕ, ◌+◌, ◌*◌, ◌≤◌, List, [], ◌∷◌, ◌++◌, replicate, refl, ap, sym, ◌∙◌, subst, Bool, true, false, Option, Some, None, if◌then◌else◌, arith}
+use Rattle.std.proofs.Common.{◌≡◌, ℕ, ◌+◌, ◌-◌, ◌*◌, ◌≤◌, List, [], ◌∷◌, ◌++◌, replicate, refl, ap, sym, ◌∙◌, subst, Bool, true, false, Option, Some, None, inl, inr, if◌then◌else◌, arith}
 use Rattle.std.specs.Prelude.{◌||◌, ◌&&◌, is_none, not, nat_le}
 use Rattle.std.proofs.lemmas.Bool.Decides.{nat_tests}
 use Rattle.std.specs.List.{list_any}
@@ -9,8 +9,11 @@ use Rattle.qc_base.specs.declared.side.Side.TheVariants.{Client}
 use Rattle.qc_base.specs.declared.side.SpaceId.{SpaceId}
 use Rattle.qc_base.specs.declared.side.SpaceId.TheVariants.{Initial, Handshake, «Data»}
 use Rattle.qc_frame.specs.Frame.{FrameValue}
-use Rattle.qc_frame.specs.declared.frames.FrameOf.TheVariants.{Padding}
+use Rattle.qc_frame.specs.declared.frames.FrameOf.TheVariants.{Padding, Ping}
 use Rattle.qc_state.specs.declared.form.Form.{Form}
+use Rattle.qc_state.specs.declared.form.Form.TheVariants as form
+use Rattle.qc_state.specs.declared.paths.Paths.{Paths}
+use Rattle.qc_state.specs.Allowed.{WaitAll, Waits}
 use Rattle.qc_state.specs.declared.deeds.Quiet.{Quiet}
 use Rattle.qc_state.specs.declared.deeds.Quiet.TheVariants.{NothingOwed, Silent, Amplification, Congestion, Pacing, Killed}
 use Rattle.qc_state.specs.declared.life.Close.{Close}
@@ -22,12 +25,12 @@ use Rattle.qc_state.specs.declared.life.State.TheVariants as state
 use Rattle.qc_state.specs.declared.keys.KeyGroup.{KeyGroup}
 use Rattle.qc_state.specs.Forms.{number_space}
 use Rattle.qc_state.specs.Keys.{has_keys, has_keys_for, reaches_limit, usage_of}
-use Rattle.qc_state.specs.Life.{rank_of, is_open, is_closed, is_drained}
-use Rattle.qc_state.specs.Moves.{Move, ClosesOnly, is_close, Arm, Begin, Forget, Give, Raise, Say, Seal, Shut, Skip, Take, MayMove, move_to, armed_with, Finish, Hold, Spend}
+use Rattle.qc_state.specs.Life.{rank_of, is_established, is_open, is_closed, is_drained}
+use Rattle.qc_state.specs.Moves.{Move, ClosesOnly, is_close, Arm, Begin, Forget, Give, Raise, Say, Seal, Shut, Skip, Take, MayMove, move_to, armed_with, Ask, Finish, Hold, Probe, Spend}
 use Rattle.qc_state.specs.Numbers.{next_number}
 use Rattle.qc_state.specs.Paths.{is_blocked, is_blocked_behind}
 use Rattle.qc_state.specs.Recovering.{loss_time}
-use Rattle.qc_state.specs.Sending.{Carries, Choice, Closes, MayBegin, MayTransmit, application_close, begun_after, begun_view, close_frame, closing_frame, drops_initial, flown_after, initial_left, is_flown, is_key_used_up, is_used_up, is_token_too_long, kill_in, owes_in, packet_after, packet_size, sealed_in, spared_after, told_close, transmit_after, Sent, Ending, Went, Held, Hushed, Died, ending_after, packets_after, Going, going_from, MayFollow, MayAll, MayEnd, handshake_left, finished_after, gone_after, begun_batch, room_in, room_of, held_after, is_silent, limit_in, next_segment, paced_until, quiet_by, quiet_of, spent_after, told_sent}
+use Rattle.qc_state.specs.Sending.{Carries, Choice, Closes, MayBegin, MayTransmit, application_close, begun_after, begun_view, close_frame, closing_frame, drops_initial, flown_after, initial_left, is_flown, is_key_used_up, is_used_up, is_token_too_long, kill_in, owes_in, packet_after, packet_size, sealed_in, spared_after, told_close, transmit_after, Sent, Ending, Went, Held, Hushed, Died, ending_after, packets_after, Going, going_from, MayFollow, MayAll, MayEnd, handshake_left, finished_after, gone_after, begun_batch, room_in, room_of, held_after, is_silent, limit_in, next_segment, paced_until, quiet_by, quiet_of, spent_after, told_sent, MayProbe, Probed, is_key_nearly_used_up, probe_begun_after, probe_frames, probe_sealed, probe_size, probed_after}
 use Rattle.qc_state.specs.Stopping.{given_after, key_limit_error, killed_after, stopped_after}
 use Rattle.qc_state.specs.Types.{Types, Meaning}
 use Rattle.qc_state.specs.View.{View, At, at}
@@ -38,6 +41,7 @@ use Rattle.qc_state.specs.Datagrams.{AllOldest}
 use Rattle.qc_state.specs.Ids.{AllNext}
 use Rattle.qc_state.specs.StreamFrames.{sealed_steps}
 use Rattle.qc_streams.specs.Steps.{AllMay}
+use Rattle.qc_state.proofs.Probing.{due_established, due_keyed, due_validated, established_alive, established_open, probe_keys, probe_life, probe_paths, probe_ping, sealed_validated}
 use Rattle.qc_state.proofs.Begun.{begun_keys, begun_life, begun_same, holds_begun}
 use Rattle.qc_state.proofs.Telling.{is_none_none, low_rank, open_rank}
 use Rattle.qc_state.specs.declared.transmit.Batch.{Batch}
@@ -82,23 +86,27 @@ IsPacketMove _ = ⊥
 
 -- the moves that a transmit makes, beside those that take and seal
 abbrev pub IsSending : {t : Types} → Move t → Type 0
+IsSending (Ask id) = Unit {0}
 IsSending (Forget id) = Unit {0}
 IsSending (Shut time close) = Unit {0}
 IsSending (Raise to) = to ≡ state.Drained
 IsSending (Give why) = Unit {0}
 IsSending (Hold until) = Unit {0}
 IsSending (Finish bytes control) = Unit {0}
+IsSending (Probe time n bytes q) = Unit {0}
 IsSending (Say q) = Unit {0}
 IsSending x = IsPacketMove x
 
 -- those of a packet among them
 of_packet : {t : Types} (x : Move t) → IsPacketMove x → IsSending x
+of_packet (Ask id) h = absurd h
 of_packet (Forget id) h = absurd h
 of_packet (Shut time close) h = absurd h
 of_packet (Raise to) h = absurd h
 of_packet (Give why) h = absurd h
 of_packet (Hold until) h = absurd h
 of_packet (Finish bytes control) h = absurd h
+of_packet (Probe time n bytes q) h = absurd h
 of_packet (Say q) h = absurd h
 of_packet _ h = h
 
@@ -155,9 +163,9 @@ fewer_block false most bytes sent h = grind (arith, nat_tests)
 
 module _ {t : Types} where
   -- where a packet may begin, its key may seal one more, its number can be spelled, and its token isn't too long
-  pub unlimited : (s : View t) (form : Form) → kill_in s form ≡ None → (is_key_used_up s form ≡ false) × (is_used_up s (number_space form) ≡ false) × (is_token_too_long s form ≡ false)
+  pub unlimited : (b : Batch) (s : View t) (form : Form) → kill_in b s form ≡ None → (is_key_used_up s form ≡ false) × (is_used_up s (number_space form) ≡ false) × (is_token_too_long b s form ≡ false)
   unfolding kill_in
-  unlimited s form h = none_stands _ _ _ _ _ _ h
+  unlimited b s form h = none_stands _ _ _ _ _ _ h
 
   -- a datagram that nothing holds back is begun on a path that isn't blocked, with the datagrams before it too
   pub free_behind : (m : Meaning t) (time : ℕ) (s : View t) (b : Batch) (id : SpaceId) → limit_in m time s b id ≡ None → is_blocked_behind s.paths b.total ≡ false
@@ -230,17 +238,16 @@ module _ {t : Types} where
         oldest = carried_oldest b.closing time (begun_after (number_space p.form) p.opens a).state p.form _ p.frames carries;
         next = carried_next b.closing time (begun_after (number_space p.form) p.opens a).state p.form _ p.frames carries;
         closes = subst (λ (l : Life). ClosesOnly (rank_of l.state) p.frames) (sym (begun_life (number_space p.form) p.opens a)) (closes_only m time a.state b p may);
-        fresh = subst (λ (k : KeyGroup t.H t.P). reaches_limit 0 (usage_of k p.form) ≡ false) (sym (begun_keys (number_space p.form) p.opens a)) (unlimited a.state p.form may.begins.fresh).0;
+        fresh = subst (λ (k : KeyGroup t.H t.P). reaches_limit 0 (usage_of k p.form) ≡ false) (sym (begun_keys (number_space p.form) p.opens a)) (unlimited b a.state p.form may.begins.fresh).0;
         alive = subst (λ (l : Life). is_drained l.state ≡ false) (sym (begun_life (number_space p.form) p.opens a)) may.begins.turn.alive;
         keyed = subst (λ (k : KeyGroup t.H t.P). has_keys_for k p.form ≡ true) (sym (begun_keys (number_space p.form) p.opens a)) (begins_keyed m time a.state b p.form p.opens may.begins);
       }
 
--- what holds of no move, of two moves one after the other, of each move with which a packet is begun, where it may be made, of what the
--- pacer spends, and of the two moves with which a packet is taken and sealed, holds of the packets of a transmit
+-- what holds of no move, of two moves one after the other, of each move with which a packet is begun, where it may be made, and of what the
+-- pacer spends, holds of what follows a packet that was sealed
 module _ {t : Types} (m : Meaning t) (R : At t → At t → Type 0) (here : (a : At t) → R a a) (next : (a b c : At t) → R a b → R b c → R a c)
     (move : (x : Move t) → IsUnspent x → (a : At t) → MayMove x a.state → R a (move_to x a))
-    (spend : (time size : ℕ) (a : At t) → R a (spent_after m time size a))
-    (seal : (time : ℕ) (form : Form) (fs : List FrameValue) (a : At t) → IsSealable time a.state form fs → R a (move_to (Seal time form (next_number a.state.numbers (number_space form)) (packet_size a.state form fs) fs) (move_to (Take (number_space form) fs) a))) where
+    (spend : (time size : ℕ) (a : At t) → R a (spent_after m time size a)) where
   -- the pacer spends, and the loss timer is set anew behind a packet in flight
   flown : (time size : ℕ) (counts : Bool) (a : At t) → R a (flown_after m time size counts a)
   unfolding armed_with MayMove
@@ -249,12 +256,17 @@ module _ {t : Types} (m : Meaning t) (R : At t → At t → Type 0) (here : (a :
       next a b _ (spend time size a) (move (Arm (loss_time b.state false time)) tt b (record { blocked = false; time = time; set = refl }))
   flown time size false a = here a
 
+-- and where it holds of the two moves with which a packet is taken and sealed, it holds of the packets of a transmit
+module _ {t : Types} (m : Meaning t) (R : At t → At t → Type 0) (here : (a : At t) → R a a) (next : (a b c : At t) → R a b → R b c → R a c)
+    (move : (x : Move t) → IsUnspent x → (a : At t) → MayMove x a.state → R a (move_to x a))
+    (spend : (time size : ℕ) (a : At t) → R a (spent_after m time size a))
+    (seal : (time : ℕ) (form : Form) (fs : List FrameValue) (a : At t) → IsSealable time a.state form fs → R a (move_to (Seal time form (next_number a.state.numbers (number_space form)) (packet_size a.state form fs) fs) (move_to (Take (number_space form) fs) a))) where
   -- a packet is taken and sealed
   sealed : (time : ℕ) (form : Form) (fs : List FrameValue) (a : At t) → IsSealable time a.state form fs → R a (sealed_in m time form fs a)
   unfolding sealed_in
   sealed time form fs a may =
       let b : At t = move_to (Seal time form (next_number a.state.numbers (number_space form)) (packet_size a.state form fs) fs) (move_to (Take (number_space form) fs) a) in
-      next a b _ (seal time form fs a may) (flown time (packet_size a.state form fs) (is_flown a.state fs) b)
+      next a b _ (seal time form fs a may) (flown m R here next move spend time (packet_size a.state form fs) (is_flown a.state fs) b)
 
   packet_told : (time : ℕ) (p : Sent) (g : Going t) → MayFollow m time g.now.state g.batch p → R g.now (packet_after m time p g).now
   unfolding packet_after MayMove
@@ -331,31 +343,126 @@ module _ {t : Types} (R : At t → At t → Type 0) (here : (a : At t) → R a a
   held m time Congestion b a h = here a
   held m time Killed b a h = here a
 
--- and where it holds of what the controller is told, of how a transmit ends
+-- a probe of the path's size is one that may be sealed
+module _ {t : Types} where
+  probe_open : (m : Meaning t) (time size : ℕ) (quiet : Quiet) (b : Batch) (a : At t) → probe_size time a.state ≡ Some size → is_established (probe_begun_after m time quiet b a).state.life.state ≡ true
+  probe_open m time size quiet b a due = ap (λ (l : Life). is_established l.state) (probe_life m time quiet b a) ∙ due_established time size a.state due
+
+  pub probe_sealable : (m : Meaning t) (time size : ℕ) (quiet : Quiet) (b : Batch) (a : At t) → probe_size time a.state ≡ Some size → kill_in b a.state form.OneRtt ≡ None →
+      IsSealable time (probe_begun_after m time quiet b a).state form.OneRtt (probe_frames (probe_begun_after m time quiet b a).state size)
+  unfolding probe_frames WaitAll Waits is_key_used_up
+  probe_sealable m time size quiet b a due kill =
+      let c : At t = probe_begun_after m time quiet b a in
+      let n : ℕ = size - packet_size c.state form.OneRtt (Ping ∷ []) in
+      let carries : Carries false time c.state form.OneRtt 0 (Ping ∷ replicate n Padding) = Carries.what_waits refl (Ping ∷ []) n (probe_ping m time quiet b a, tt) refl in
+      record {
+        closing = false;
+        room = 0;
+        small = omega arith;
+        carries = carries;
+        takes = carried_may false time c.state form.OneRtt 0 (Ping ∷ replicate n Padding) carries;
+        oldest = carried_oldest false time c.state form.OneRtt 0 (Ping ∷ replicate n Padding) carries;
+        next = carried_next false time c.state form.OneRtt 0 (Ping ∷ replicate n Padding) carries;
+        closes = λ r. absurd (omega (arith, r, open_rank c.state.life.state (established_open c.state.life.state (probe_open m time size quiet b a due))));
+        fresh = subst (λ (k : KeyGroup t.H t.P). reaches_limit 0 (usage_of k form.OneRtt) ≡ false) (sym (probe_keys m time quiet b a)) (unlimited b a.state form.OneRtt kill).0;
+        alive = established_alive c.state.life.state (probe_open m time size quiet b a due);
+        keyed = ap (λ (k : KeyGroup t.H t.P). has_keys_for k form.OneRtt) (probe_keys m time quiet b a) ∙ due_keyed time size a.state due;
+      }
+
+  probe_alive : (m : Meaning t) (time : ℕ) (b : Batch) (a : At t) (quiet : Quiet) (size : ℕ) → MayProbe m time a.state b quiet size → is_drained a.state.life.state ≡ false
+  probe_alive m time b a quiet size may = established_alive a.state.life.state (due_established time size a.state may.due)
+
+  -- where a packet was to begin that can't, the connection hasn't ended yet
+  dies_alive : (m : Meaning t) (time : ℕ) (why : ConnectionError) (b : Batch) (a : At t) → MayEnd m time (Died why) a.state b → is_drained a.state.life.state ≡ false
+  dies_alive m time why b a (inl dies) = dies.turn.alive
+  dies_alive m time why b a (inr dies) = probe_alive m time b a dies.quiet dies.size dies.may
+
+-- what holds of each move, of what the pacer spends, and of the two moves with which its packet is taken and sealed, holds of a probe of the path's
+-- size
+module _ {t : Types} (m : Meaning t) (R : At t → At t → Type 0) (here : (a : At t) → R a a) (next : (a b c : At t) → R a b → R b c → R a c)
+    (move : (x : Move t) → IsUntold x → (a : At t) → MayMove x a.state → R a (move_to x a))
+    (spend : (time size : ℕ) (a : At t) → R a (spent_after m time size a))
+    (seal : (time : ℕ) (fs : List FrameValue) (a : At t) → IsSealable time a.state form.OneRtt fs → R a (move_to (Seal time form.OneRtt (next_number a.state.numbers «Data») (packet_size a.state form.OneRtt fs) fs) (move_to (Take «Data» fs) a))) where
+  probe_taken : (time : ℕ) (fs : List FrameValue) (a : At t) → IsSealable time a.state form.OneRtt fs → R a (sealed_in m time form.OneRtt fs a)
+  unfolding sealed_in
+  probe_taken time fs a may =
+      let b : At t = move_to (Seal time form.OneRtt (next_number a.state.numbers «Data») (packet_size a.state form.OneRtt fs) fs) (move_to (Take «Data» fs) a) in
+      next a b _ (seal time fs a may) (flown m R here next (λ x p y h. move x (unspent_untold x p) y h) spend time (packet_size a.state form.OneRtt fs) (is_flown a.state fs) b)
+
+  begun_probe : (time : ℕ) (quiet : Quiet) (b : Batch) (a : At t) → quiet_of m time a.state b ≡ Some quiet → R a (probe_begun_after m time quiet b a)
+  unfolding probe_begun_after MayMove
+  begun_probe time quiet b a cause =
+      let c : At t = held_after m time quiet b a in
+      let d : At t = move_to (Ask «Data») c in
+      next a c _ (held R here next move m time quiet b a cause)
+      (next c d _ (move (Ask «Data») tt c tt) (holds_begun R here next «Data» false d (λ x. move (Begin «Data» false) tt x tt) (λ x skips. move Skip tt x skips)))
+
+  pub probe_told : (time size : ℕ) (quiet : Quiet) (b : Batch) (a : At t) → MayProbe m time a.state b quiet size → kill_in b a.state form.OneRtt ≡ None → R a (probed_after m time size quiet b a)
+  unfolding probed_after probe_sealed MayMove
+  probe_told time size quiet b a may kill =
+      let c : At t = probe_begun_after m time quiet b a in
+      let fs : List FrameValue = probe_frames c.state size in
+      let d : At t = sealed_in m time form.OneRtt fs c in
+      let e : At t = move_to (Probe time (next_number c.state.numbers «Data») size quiet) d in
+      let validated : d.state.paths.current.validated ≡ true =
+      sealed_validated m time form.OneRtt fs c ∙ ap (λ (p : Paths t.C). p.current.validated) (probe_paths m time quiet b a) ∙ due_validated time size a.state may.due in
+      next a c _ (begun_probe time quiet b a may.cause)
+      (next c d _ (probe_taken time fs c (probe_sealable m time size quiet b a may.due kill))
+      (next d e _ (move (Probe time (next_number c.state.numbers «Data») size quiet) tt d validated) (holds_spared R here next move time (is_key_nearly_used_up c.state form.OneRtt) e)))
+
+-- an ending without such a probe
+abbrev pub IsUnprobed : Ending → Type 0
+IsUnprobed (Probed quiet size) = ⊥
+IsUnprobed e = Unit {0}
+
+-- and where it holds of what the controller is told, of how a transmit ends, but with a probe
 module _ {t : Types} (m : Meaning t) (R : At t → At t → Type 0) (here : (a : At t) → R a a) (next : (a b c : At t) → R a b → R b c → R a c)
     (move : (x : Move t) → IsUntold x → (a : At t) → MayMove x a.state → R a (move_to x a))
     (tell : (time : ℕ) (b : Batch) (a : At t) → R a (told_sent m time b a)) where
-  pub ending_told : (time : ℕ) (e : Ending) (b : Batch) (a : At t) → MayEnd m time e a.state b → R a (ending_after m time e b a)
+  pub unprobed_told : (time : ℕ) (e : Ending) (b : Batch) (a : At t) → IsUnprobed e → MayEnd m time e a.state b → R a (ending_after m time e b a)
   unfolding ending_after finished_after MayMove
-  ending_told time Went b a may =
+  unprobed_told time Went b a plain may =
       let c : At t = handshake_left time b.shook a in
       let d : At t = spared_after time b.worn c in
       next a c _ (left R here next move time b.shook a) (next c d _ (holds_spared R here next move time b.worn c) (tell time b d))
-  ending_told time Held b a may =
+  unprobed_told time Held b a plain may =
       let e : At t = held_after m time Pacing b a in
       let c : At t = handshake_left time b.shook e in
       let d : At t = spared_after time b.worn c in
       next a e _ (held_by_pacer R here next move m time b a may.1.turn.alive) (next e c _ (left R here next move time b.shook e) (next c d _ (holds_spared R here next move time b.worn c) (tell time b d)))
-  ending_told time (Hushed quiet) b a may =
+  unprobed_told time (Hushed quiet) b a plain may =
       let c : At t = held_after m time quiet b a in
       next a c _ (held R here next move m time quiet b a may.1) (move (Say quiet) tt c tt)
-  ending_told time (Died why) b a may = let c : At t = killed_after why a in next a c _ (killed R here next move why a may.turn.alive) (move (Say Killed) tt c tt)
+  unprobed_told time (Probed quiet size) b a plain may = absurd plain
+  unprobed_told time (Died why) b a plain may = let c : At t = killed_after why a in next a c _ (killed R here next move why a (dies_alive m time why b a may)) (move (Say Killed) tt c tt)
+
+-- and with one
+module _ {t : Types} (m : Meaning t) (R : At t → At t → Type 0) (here : (a : At t) → R a a) (next : (a b c : At t) → R a b → R b c → R a c)
+    (move : (x : Move t) → IsUntold x → (a : At t) → MayMove x a.state → R a (move_to x a))
+    (spend : (time size : ℕ) (a : At t) → R a (spent_after m time size a))
+    (tell : (time : ℕ) (b : Batch) (a : At t) → R a (told_sent m time b a))
+    (seal : (time : ℕ) (fs : List FrameValue) (a : At t) → IsSealable time a.state form.OneRtt fs → R a (move_to (Seal time form.OneRtt (next_number a.state.numbers «Data») (packet_size a.state form.OneRtt fs) fs) (move_to (Take «Data» fs) a))) where
+  pub ending_told : (time : ℕ) (e : Ending) (b : Batch) (a : At t) → MayEnd m time e a.state b → R a (ending_after m time e b a)
+  unfolding ending_after
+  ending_told time (Probed quiet size) b a may = probe_told m R here next move spend seal time size quiet b a may.0 may.1
+  ending_told time Went b a may = unprobed_told m R here next move tell time Went b a tt may
+  ending_told time Held b a may = unprobed_told m R here next move tell time Held b a tt may
+  ending_told time (Hushed quiet) b a may = unprobed_told m R here next move tell time (Hushed quiet) b a tt may
+  ending_told time (Died why) b a may = unprobed_told m R here next move tell time (Died why) b a tt may
 
 module _ {t : Types} (R : At t → At t → Type 0) (here : (a : At t) → R a a) (next : (a b c : At t) → R a b → R b c → R a c)
     (move : (x : Move t) → IsSending x → (a : At t) → MayMove x a.state → R a (move_to x a)) where
-  pub holds_ending : (m : Meaning t) (time : ℕ) (e : Ending) (b : Batch) (a : At t) → MayEnd m time e a.state b → R a (ending_after m time e b a)
+  pub holds_unprobed : (m : Meaning t) (time : ℕ) (e : Ending) (b : Batch) (a : At t) → IsUnprobed e → MayEnd m time e a.state b → R a (ending_after m time e b a)
   unfolding told_sent MayMove
-  holds_ending m time e b a may = ending_told m R here next (λ x s c h. move x (untold_sending x s) c h) (λ at batch c. move (Finish batch.total _) tt c tt) time e b a may
+  holds_unprobed m time e b a plain may = unprobed_told m R here next (λ x s c h. move x (untold_sending x s) c h) (λ at batch c. move (Finish batch.total _) tt c tt) time e b a plain may
+
+module _ {t : Types} (R : At t → At t → Type 0) (here : (a : At t) → R a a) (next : (a b c : At t) → R a b → R b c → R a c)
+    (move : (x : Move t) → IsSending x → (a : At t) → MayMove x a.state → R a (move_to x a))
+    (seal : (time : ℕ) (fs : List FrameValue) (a : At t) → IsSealable time a.state form.OneRtt fs → R a (move_to (Seal time form.OneRtt (next_number a.state.numbers «Data») (packet_size a.state form.OneRtt fs) fs) (move_to (Take «Data» fs) a))) where
+  pub holds_ending : (m : Meaning t) (time : ℕ) (e : Ending) (b : Batch) (a : At t) → MayEnd m time e a.state b → R a (ending_after m time e b a)
+  unfolding told_sent spent_after MayMove
+  holds_ending m time e b a may =
+      ending_told m R here next (λ x s c h. move x (untold_sending x s) c h) (λ at size c. move (Spend _) tt c tt) (λ at batch c. move (Finish batch.total _) tt c tt) seal time e b a may
 
 -- and of a transmit
 module _ {t : Types} (m : Meaning t) (R : At t → At t → Type 0) (here : (a : At t) → R a a) (next : (a b c : At t) → R a b → R b c → R a c)
@@ -367,7 +474,7 @@ module _ {t : Types} (m : Meaning t) (R : At t → At t → Type 0) (here : (a :
   unfolding MayTransmit transmit_after gone_after
   transmit_told time asked choice a may =
       let g : Going t = packets_after m time choice.packets (going_from asked a) in
-      next a g.now _ (packets_told m R here next (λ x p b h. move x (unspent_untold x p) b h) spend seal time choice.packets (going_from asked a) may.0) (ending_told m R here next move tell time choice.ending g.batch g.now may.1)
+      next a g.now _ (packets_told m R here next (λ x p b h. move x (unspent_untold x p) b h) spend seal time choice.packets (going_from asked a) may.0) (ending_told m R here next move spend tell (λ at fs b h. seal at form.OneRtt fs b h) time choice.ending g.batch g.now may.1)
 
 module _ {t : Types} (R : At t → At t → Type 0) (here : (a : At t) → R a a) (next : (a b c : At t) → R a b → R b c → R a c)
     (move : (x : Move t) → IsSending x → (a : At t) → MayMove x a.state → R a (move_to x a))

@@ -61,7 +61,7 @@ abbrev pub IsOldest : FrameValue → Datagrams → Type 0
 IsOldest (frames.Datagram body) d = first d.outgoing ≡ body ∷ []
 IsOldest _ d = Unit {0}
 
--- so is each DATAGRAM among frames as its turn comes: none overtakes another
+-- each DATAGRAM among frames is the oldest as its turn comes: none overtakes another (RFC 9221, section 5)
 unfoldable pub AllOldest : List FrameValue → Datagrams → Type 0
 AllOldest [] d = Unit {0}
 AllOldest (f ∷ fs) d = IsOldest f d × AllOldest fs (after (sealed_datagram f) d)

@@ -50,15 +50,20 @@ fixed_of side version local_cid first_cid cid_lifetime preferred local_ip transp
   spins = spins_of transport.allow_spin words;
   key_phase_size = key_phase_of words;
   segmentation = transport.enable_segmentation_offload;
+  pads = transport.pad_to_mtu;
 }
 
 -- a space in which nothing waits but these CRYPTO bytes
 abbrev pub nothing_waits : List ℕ → SpaceWaiting
 nothing_waits crypto = record { done = false; ping = false; crypto = bytes_written crypto nothing_written; acks = record { ranges = []; marks = no_marks }; marks = None; probes = 0 }
 
--- what loss recovery keeps of a path that begins at a time, with this controller; no larger datagrams are looked for so far
+-- a configuration, by which larger datagrams are looked for as it says, or not at all
+abbrev pub allowed_by : (allow_mtud : Bool) → TransportValues → TransportValues
+allowed_by allow_mtud transport = record transport { mtu_discovery_config = if allow_mtud then transport.mtu_discovery_config else None }
+
+-- what loss recovery keeps of a path that begins at a time, with this controller
 abbrev pub first_path : {C : Type 0} → Control C → TransportValues → C → (time : ℕ) → PathData C
-first_path m transport congestion time = begun_path m time transport congestion false None
+first_path m transport congestion time = begun_path m time transport congestion true None
 
 -- no stream is open, and the peer may open as many as the configuration says, with its windows
 abbrev pub first_streams : Side → TransportValues → StreamsState

@@ -23,8 +23,8 @@ has_numbers_alone (frames.NewConnectionId new) = true
 has_numbers_alone (frames.RetireConnectionId sequence) = true
 has_numbers_alone _ = false
 
--- what is kept of a frame while its packet is in flight: frames that are sent again where it is lost, but for STREAM, and which numbers an
--- ACK acknowledged
+-- Each CRYPTO byte that was written waits, is in flight, or was acknowledged (RFC 9000, section 13.3). What is kept of a frame while its packet is in
+-- flight: frames that are sent again where it is lost, but for STREAM, and which numbers an ACK acknowledged
 abbrev pub kept_of : FrameValue → List FrameValue
 kept_of frames.HandshakeDone = frames.HandshakeDone ∷ []
 kept_of (frames.Crypto offset body) = frames.Crypto offset body ∷ []

@@ -190,7 +190,7 @@ unfoldable pub Tells : SpaceId → Kernel → List Did → Kernel → Type 0
 Tells id k [] k' = IsBehind k k'
 Tells id k (d ∷ ds) k' = IsRight id k d × Tells id (kernel_after id k d) ds k'
 
--- a deed that tells of a packet which was ignored, or which its key didn't open
+-- Packets that open nothing change only counts (RFC 9001, section 9.5). A deed that tells of a packet which was ignored, or which its key didn't open
 abbrev pub is_harmless : Did → Bool
 is_harmless (Piece space number verdict.Ignored) = true
 is_harmless (Piece space number verdict.Failure) = true

@@ -40,7 +40,7 @@ IsNext (frames.NewConnectionId new) s = next_told s ≡ Some new
 IsNext (frames.RetireConnectionId sequence) s = next_retired s ≡ Some sequence
 IsNext _ s = Unit {0}
 
--- so is each of theirs among frames as its turn comes
+-- each frame of ids among others is the next one as its turn comes
 unfoldable pub AllNext : List FrameValue → ConnectionIds → Type 0
 AllNext [] s = Unit {0}
 AllNext (f ∷ fs) s = IsNext f s × AllNext fs (after (sealed_cid f) s)
@@ -57,7 +57,8 @@ lost_cid (frames.NewConnectionId new) = TellLost (told_cid new) ∷ []
 lost_cid (frames.RetireConnectionId sequence) = RetireLost sequence ∷ []
 lost_cid _ = []
 
--- those of all frames that are kept of a packet, in their order
+-- Ids that the endpoint gives are told to the peer, again where their packet is lost (RFC 9000, sections 13.3 and 19.15). Those of all frames that
+-- are kept of a packet, in their order
 unfoldable pub lost_cids : List FrameValue → List Step
 lost_cids [] = []
 lost_cids (f ∷ fs) = lost_cid f ++ lost_cids fs

@@ -15,7 +15,8 @@ use Rattle.qc_state.specs.declared.keys.KeyUse.{KeyUse}
 use Rattle.qc_state.specs.declared.keys.OneRttKeys.{OneRttKeys}
 use Rattle.qc_state.specs.declared.keys.SpaceKeys.{SpaceKeys}
 
--- with so many packets more, a key has sealed as many as it may
+-- A key seals no more packets than it may; failures have a limit (RFC 9001, section 6.6). With so many packets more, a key has sealed as many as it
+-- may
 abbrev pub reaches_limit : (more : ℕ) → Option KeyUse → Bool
 reaches_limit more None = false
 reaches_limit more (Some usage) = nat_le usage.limit (usage.sealed + more)

@@ -55,7 +55,7 @@ is_drained _ = false
 unfoldable pub reason_given : Life → ConnectionError → Life
 reason_given v why = if is_none v.reason then record v { reason = Some why; lost = Some why } else v
 
--- the life rises; at its end, that waits to be reported
+-- The life never falls, and one reason is given (RFC 9000, section 10). The life rises; at its end, that waits to be reported
 unfoldable pub life_raised : Life → State → Life
 life_raised v to = record v { state = to; drained = v.drained || (rank_of to == 4) }
 
@@ -123,7 +123,7 @@ lost_reported v = record v { lost = None }
 unfoldable pub token_learned : Life → SocketAddr → List ℕ → Life
 token_learned v remote token = record v { notices = v.notices ++ endpoint.ResetToken remote token ∷ [] }
 
--- so does one that came with another id of the peer, where one did
+-- a token that came with another id of the peer waits to be reported too, where one did
 abbrev pub token_told : Life → SocketAddr → Option (List ℕ) → Life
 token_told v remote None = v
 token_told v remote (Some token) = token_learned v remote token

@@ -53,7 +53,7 @@ use Rattle.qc_state.specs.Flight.{flown_packet}
 use Rattle.qc_state.specs.Ids.{active_limit, fired_ids, lost_ids}
 use Rattle.qc_state.specs.Lower.{bytes_came, frames_sealed, ids_stepped, session_read, session_wrote, flight_dropped, packet_flown, packets_settled, timer_fired, streams_stepped, datagrams_stepped, frame_handed, limits_learned, streams_closed, event_told, events_told}
 use Rattle.qc_state.specs.Offers.{packet_begun}
-use Rattle.qc_state.specs.Paths.{is_blocked, path_quiet, path_sent, path_received, path_accepted, path_kept, path_named, path_spun, peer_fixed}
+use Rattle.qc_state.specs.Paths.{is_blocked, path_capped, path_probed, path_quiet, path_sent, path_received, path_accepted, path_kept, path_named, path_spun, peer_fixed}
 use Rattle.qc_state.specs.Recovering.{loss_time, probe_timeout_now}
 use Rattle.qc_state.specs.Setup.{idle_limit_now, packet_drawn, parameters_known, peer_delay, token_expected, word_drawn}
 use Rattle.qc_state.specs.Spaces.{is_space}
@@ -189,6 +189,7 @@ pub data Move (t : Types) : Type 0 where
   Spend : (tokens : Bucket) → Move t  -- a packet that counts as in flight is taken out of the pacer's tokens
   Hold : (until : Option ℕ) → Move t  -- the pacer holds a datagram back until a time
   Finish : (bytes : ℕ) → (control : t.C) → Move t  -- a transmit ends that sealed packets: so many bytes go to the path's address, and the controller is told
+  Probe : (time number bytes : ℕ) → (quiet : Quiet) → Move t  -- a probe of the path's size was sealed, of so many bytes, by a transmit that would have sealed nothing for this cause
   Say : (quiet : Quiet) → Move t  -- a transmit sends nothing, for this cause
   Hand : (frame : FrameValue) → Move t  -- the streams or the datagrams are handed a frame, which they may refuse
   Insert : (new : NewConnectionId) → Move t  -- the ids are handed a NEW_CONNECTION_ID, which they may refuse
@@ -257,12 +258,13 @@ module _ {t : Types} where
   paths_move (Fix cid) s = peer_fixed s.paths cid
   paths_move (Insert new) s = path_named s.paths (active_of (ids.after_step (ids.NewCame new) s.lower.ids).remote)
   paths_move Switch s = path_named s.paths (active_of (ids.after_step ids.Switched s.lower.ids).remote)
-  paths_move (Learn parameters) s = path_named s.paths (active_of (limits_learned parameters s.lower).ids.remote)
+  paths_move (Learn parameters) s = path_named (path_capped s.paths parameters) (active_of (limits_learned parameters s.lower).ids.remote)
   paths_move (Accept time id n e g v) s = path_spun (path_accepted s.paths id v) s.setup.fixed.side (nat_le (received_number s.numbers id) n) g.spin
   paths_move (Hear bytes) s = path_received s.paths bytes
   paths_move (Forget id) s = path_kept s.paths (path_dropped id s.paths.current.kept)
   paths_move (Ack id n r) s = path_kept s.paths r.path
   paths_move (Fire r) s = path_kept s.paths r.path
+  paths_move (Probe time n bytes q) s = path_probed s.paths time n bytes q
   paths_move (Say q) s = path_quiet s.paths q
   paths_move _ s = s.paths
 
@@ -394,6 +396,7 @@ module _ {t : Types} where
   MayMove PeerClosesToo s = is_closed s.life.state ≡ true
   MayMove Owe s = is_open s.life.state ≡ false
   MayMove (Raise to) s = rank_of s.life.state < rank_of to
+  MayMove (Probe time n bytes q) s = s.paths.current.validated ≡ true
   MayMove (Hold until) s = is_drained s.life.state ≡ false
   MayMove (Give why) s = s.life.reason ≡ None
   MayMove _ s = Unit {0}

@@ -28,7 +28,7 @@ acked_number v id = min (space_of v.spaces id).largest_acked (space_of v.spaces 
 unfoldable pub used_in : ℕ → SpaceNumbers → SpaceNumbers
 used_in n w = record w { next = n + 1 }
 
--- a packet was sealed in the space with this number
+-- Packet numbers of a space are used once and rise (RFC 9000, section 12.3). A packet was sealed in the space with this number
 unfoldable pub number_used : Numbers → SpaceId → ℕ → Numbers
 number_used v id n = record v { spaces = with_space v.spaces id (used_in n (space_of v.spaces id)) }
 

@@ -1,6 +1,8 @@
 -- What waits in a space, over all layers: frames that the waiting group keeps, and those that a layer below offers in its own words: the
 -- streams, the datagrams of the application, and the connection ids.
-use Rattle.std.specs.Prelude.{ℕ, ◌+◌, ◌-◌, Bool, false, ◌||◌, not, ◌==◌, if◌then◌else◌, List, [], ◌++◌, length, Option, None, Some}
+use Rattle.std.specs.Prelude.{ℕ, ◌+◌, ◌-◌, Bool, false, ◌||◌, ◌&&◌, not, ◌==◌, if◌then◌else◌, List, [], ◌++◌, length, Option, None, Some, is_some}
+use Rattle.qc_cids.specs.Cids.{next_retired, next_told}
+use Rattle.qc_cids.specs.declared.connection_ids.ConnectionIds.{ConnectionIds}
 use Rattle.qc_base.specs.PacketNumber.{number_len, number_of}
 use Rattle.qc_cids.specs.Steps as ids
 use Rattle.qc_base.specs.declared.side.SpaceId.{SpaceId}
@@ -13,12 +15,16 @@ use Rattle.qc_state.specs.Datagrams.{first_fits}
 use Rattle.qc_state.specs.Ids.{again_ids, ids_want, lost_cids}
 use Rattle.qc_state.specs.Lower.{ids_stepped, streams_stepped}
 use Rattle.qc_state.specs.Numbers.{acked_number, coming_number}
+use Rattle.qc_state.specs.Paths.{most_on}
 use Rattle.qc_state.specs.StreamFrames.{filed_steps, packet_lost}
-use Rattle.qc_streams.specs.Pending.{has_control, has_waiting}
+use Rattle.qc_streams.specs.Control.{next_control}
+use Rattle.qc_streams.specs.Pending.{bytes_wait, has_control, has_waiting}
 use Rattle.qc_streams.specs.Waits.{Step}
 use Rattle.qc_streams.specs.declared.state.StreamsState.{StreamsState}
-use Rattle.qc_state.specs.Spaces.{space_of}
-use Rattle.qc_state.specs.declared.transmit.TheConstants.{DATAGRAM_SIZE}
+use Rattle.qc_state.specs.Spaces.{is_space, space_of}
+use Rattle.qc_state.specs.declared.transmit.TheConstants.{SPARE_ROOM}
+use Rattle.qc_state.specs.declared.waiting.SpaceWaiting.{SpaceWaiting}
+use Rattle.qc_turns.specs.Ready.{next_turn}
 use Rattle.qc_state.specs.Types.{Types}
 use Rattle.qc_state.specs.View.{View}
 use Rattle.qc_state.specs.Waiting.{frames_again, ping_asked, probe_spent, wants_here}
@@ -33,15 +39,38 @@ abbrev pub streams_want : SpaceId → StreamsState → Bool
 streams_want «Data» s = has_waiting s || has_control s
 streams_want _ s = false
 
+-- of a stream whose turn it is bytes wait, or its end
+abbrev pub turn_waits : Option ℕ → StreamsState → Bool
+turn_waits None s = false
+turn_waits (Some id) s = bytes_wait s id
+
+-- The streams have a frame for a packet with room: one without bytes, or one with bytes of the stream whose turn it is, or its end. Behind
+-- `file_marks` that is so where one waits at all, whatever happened to the streams (`what_waits_is_drawn`, `control_that_waits_is_drawn`).
+abbrev pub streams_offer : StreamsState → Bool
+streams_offer s = is_some (next_control SPARE_ROOM s) || turn_waits (next_turn s.waiting.ready) s
+
+-- the connection ids have one
+abbrev pub ids_offer : ConnectionIds → Bool
+ids_offer s = is_some (next_told s) || is_some (next_retired s)
+
+-- there is a frame that elicits an acknowledgement for a packet with room, DATAGRAMs aside: one that waits here, or in a packet of 1-RTT one of
+-- the streams or of the connection ids
+abbrev pub offers_here : (in_data : Bool) → SpaceWaiting → StreamsState → ConnectionIds → Bool
+offers_here in_data w streams ids = wants_here w || (in_data && (streams_offer streams || ids_offer ids))
+
 module _ {t : Types} where
+  -- so it is in a space
+  unfoldable pub offers_in : View t → SpaceId → Bool
+  offers_in s id = offers_here (is_space id «Data») (space_of s.waiting.spaces id) s.lower.streams s.lower.ids
+
   -- a frame waits in the space that elicits an acknowledgement, DATAGRAMs aside: one of its own, or one of the streams or of the connection
   -- ids, whose frames go in 1-RTT packets
   unfoldable pub wants_sending : View t → SpaceId → Bool
   wants_sending s id = wants_here (space_of s.waiting.spaces id) || (streams_want id s.lower.streams || ids_want id s.lower.ids)
 
-  -- how many bytes a datagram to the path may have: so far 1200 on every path (RFC 9000, section 14)
+  -- how many bytes a datagram to the path in use may have
   abbrev pub path_size : View t → ℕ
-  path_size s = DATAGRAM_SIZE
+  path_size s = most_on s.paths.current
 
   -- how much room for frames a 1-RTT packet of so many bytes has, behind its header with the number that comes next, and before its tag of
   -- 16 bytes (RFC 9000, section 17.3.1)

@@ -1,5 +1,5 @@
 -- The paths to the peer (RFC 9000, section 9).
-use Rattle.std.specs.Prelude.{ℕ, ◌+◌, ◌*◌, List, Bool, true, false, ◌&&◌, ◌==◌, not, nat_eq, nat_le, if◌then◌else◌, Option, Some, None}
+use Rattle.std.specs.Prelude.{ℕ, min, max, ◌+◌, ◌*◌, List, Bool, true, false, ◌&&◌, ◌==◌, not, nat_eq, nat_le, if◌then◌else◌, Option, Some, None}
 use Rattle.std.specs.Cmp.Lexicographic.{pointwise}
 use Rattle.std.specs.Net.Addr.{ipv4_octets, ipv6_segments}
 use Rattle.std.specs.Net.Socket.{v4_ip, v4_port, v6_ip, v6_port, v6_flowinfo, v6_scope_id}
@@ -10,6 +10,8 @@ use Rattle.qc_base.specs.declared.side.Side.{Side}
 use Rattle.qc_base.specs.declared.side.Side.TheVariants.{Client, Server}
 use Rattle.qc_base.specs.declared.side.SpaceId.{SpaceId}
 use Rattle.qc_base.specs.declared.side.SpaceId.TheVariants.{Handshake}
+use Rattle.qc_params.specs.declared.params.TransportParameters.{TransportParameters}
+use Rattle.qc_path.specs.Mtu.{peer_known, probe_sent}
 use Rattle.qc_recovery.specs.declared.path.PathData.{PathData}
 use Rattle.qc_state.specs.declared.deeds.Quiet.{Quiet}
 use Rattle.qc_state.specs.declared.deeds.Quiet.TheVariants.{NothingOwed, Silent, Amplification, Congestion, Pacing, Killed}
@@ -18,9 +20,14 @@ use Rattle.qc_state.specs.declared.deeds.Verdict.TheVariants.{Admitted}
 use Rattle.qc_state.specs.declared.paths.Path.{Path}
 use Rattle.qc_state.specs.declared.paths.Paths.{Paths}
 
+-- a size of datagrams in bytes, held between the 1200 that each path takes (RFC 9000, section 14) and 16,383, with which each length in a
+-- packet has two bytes at most
+abbrev pub held_size : ℕ → ℕ
+held_size size = max 1200 (min size 16383)
+
 -- a path on which nothing was sent or received so far, whose packets carry this id, and of which loss recovery keeps this
 unfoldable pub new_path : {C : Type 0} → (remote : SocketAddr) → (remote_cid : List ℕ) → (validated : Bool) → (kept : PathData C) → Path C
-new_path remote remote_cid validated kept = record { remote = remote; remote_cid = remote_cid; validated = validated; sent = 0; received = 0; kept = kept }
+new_path remote remote_cid validated kept = record { remote = remote; remote_cid = remote_cid; validated = validated; sent = 0; received = 0; first_mtu = kept.mtud.current; kept = kept }
 
 -- a connection's first path, with the id that the peer chose, where it did
 unfoldable pub only_path : {C : Type 0} → Path C → (peer_cid : Option (List ℕ)) → Paths C
@@ -39,6 +46,13 @@ path_quiet v Amplification = record v { app_limited = true }
 path_quiet v Congestion = record v { app_limited = false }
 path_quiet v Pacing = record v { app_limited = false }
 path_quiet v Killed = v
+
+-- a probe of the path's size was sent at a time, with this number and so many bytes, by a transmit that would have sent nothing for this cause:
+-- the search waits for it, and the controller is told nothing (RFC 8899, section 3; RFC 9000, section 14.4)
+unfoldable pub path_probed : {C : Type 0} → Paths C → (time number bytes : ℕ) → Quiet → Paths C
+path_probed v time number bytes quiet = path_quiet (record v {
+  current = record v.current { sent = plus v.current.sent bytes; kept = record v.current.kept { mtud = probe_sent time number v.current.kept.mtud } };
+}) quiet
 
 -- so many bytes came from the path's address
 unfoldable pub path_received : {C : Type 0} → Paths C → ℕ → Paths C
@@ -66,7 +80,8 @@ abbrev pub is_other_source : (chosen : Option (List ℕ)) → (source : List ℕ
 is_other_source None source = false
 is_other_source (Some cid) source = not (pointwise nat_eq source cid)
 
--- a packet of this space was accepted: a Handshake packet that was admitted shows that the peer gets what is sent to its address
+-- A Handshake packet that is admitted validates the path (RFC 9000, section 8.1). A packet of this space was accepted: a Handshake packet that was
+-- admitted shows that the peer gets what is sent to its address
 unfoldable pub path_accepted : {C : Type 0} → Paths C → SpaceId → Verdict → Paths C
 path_accepted v Handshake Admitted = record v { current = record v.current { validated = true } }
 path_accepted v _ _ = v
@@ -83,6 +98,18 @@ path_spun v side greatest bit = if greatest then record v { spin = spun_by side 
 -- loss recovery keeps this of the path in use from then on (RFC 9002)
 unfoldable pub path_kept : {C : Type 0} → Paths C → PathData C → Paths C
 path_kept v kept = record v { current = record v.current { kept = kept } }
+
+-- how many bytes a datagram to a path may have: as many as its search found; while its address isn't validated, no more than it began with
+unfoldable pub most_on : {C : Type 0} → Path C → ℕ
+most_on p = held_size (if p.validated then p.kept.mtud.current else min p.first_mtu p.kept.mtud.current)
+
+-- up to how many bytes a datagram to it is filled up that is to be: the size that each path takes, by the configuration, and at most that
+unfoldable pub least_on : {C : Type 0} → Path C → ℕ
+least_on p = min (held_size p.kept.mtud.least) (most_on p)
+
+-- the greatest datagrams that the peer takes, by its parameters (RFC 9000, section 18.2), are known: those to it have no more bytes
+unfoldable pub path_capped : {C : Type 0} → Paths C → TransportParameters → Paths C
+path_capped v parameters = path_kept v (record v.current.kept { mtud = peer_known (min parameters.max_udp_payload_size 65527) v.current.kept.mtud })
 
 -- no datagram may be begun: the peer's address isn't validated, and three times the bytes that came from it were sent (RFC
 -- 9000, section 8.1); the last datagram may go past that

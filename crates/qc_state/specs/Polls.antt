@@ -22,7 +22,8 @@ stream_first None lost = lost
 stream_first (Some event) lost = Some (Stream event)
 
 module _ {t : Types} where
-  -- the events that wait for the application, in their order: those of the handshake, those of datagrams, those of streams, and the reason of the end last
+  -- What came to pass is told, and once (RFC 9000, section 10). The events that wait for the application, in their order: those of the handshake,
+  -- those of datagrams, those of streams, and the reason of the end last
   unfoldable pub waiting_events : View t → List Event
   waiting_events s =
       option_to_list (ready_event s.life)

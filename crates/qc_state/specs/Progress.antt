@@ -81,7 +81,7 @@ module _ {t : Types} where
   ids_fit_for Client s p = names_id p.initial_src_cid (peer_id s.paths) && (names_id p.original_dst_cid s.setup.fixed.first_cid && is_none p.retry_src_cid)
   ids_fit_for Server s p = names_id p.initial_src_cid (peer_id s.paths)
 
-  -- so for this end
+  -- the ids in the transport parameters are those of the handshake, for this end (RFC 9000, section 7.3)
   unfoldable pub ids_fit : View t → TransportParameters → Bool
   ids_fit s p = ids_fit_for s.setup.fixed.side s p
 

@@ -94,7 +94,8 @@ data_stop side next skipped type (frames.NewConnectionId new) = None
 data_stop side next skipped type (frames.RetireConnectionId sequence) = None
 data_stop side next skipped type _ = Some (internal_error_at (Some type))
 
--- by the space of the packet
+-- the error with which a frame stops its packet by its kind, by the packet's space: an ACK of a number that was never sent does (RFC 9000,
+-- section 13.1), and so does a frame that may not stand there (section 12.4)
 abbrev pub stop_in : Side → SpaceId → (next : ℕ) → (skipped : Option ℕ) → (type : ℕ) → FrameValue → Option TransportError
 stop_in side Initial next skipped type frame = frame_stop next type frame
 stop_in side Handshake next skipped type frame = frame_stop next type frame
@@ -241,7 +242,8 @@ module _ {t : Types} where
       answered_after coming (m.reads a.state.lower.session (b ∷ bytes))
       (move_to (Read id (length (b ∷ bytes)) (m.after_read a.state.lower.session (b ∷ bytes))) (move_to (Tell (did.Gave layer.Session (b ∷ bytes))) a))
 
-  -- bytes of the space's CRYPTO stream came: the session is given all that can be read in order from then on
+  -- CRYPTO bytes are given in order, each once (RFC 9000, section 19.6). Bytes of the space's CRYPTO stream came: the session is given all that can
+  -- be read in order from then on
   unfoldable pub kept_after : Meaning t → Coming → SpaceId → (offset : ℕ) → (body : List ℕ) → At t → Behind t
   kept_after m coming id offset body a =
       let b : At t = move_to (Come id offset body) a in
@@ -252,7 +254,8 @@ module _ {t : Types} where
   refused_after time None a = Goes a
   refused_after time (Some error) a = Ends (stopped_after time error a)
 
-  -- the streams or the datagrams are handed a frame, refused or not
+  -- Frames about streams are handed to the streams, in order, and a refused one closes with its rule's code (RFC 9000, sections 19.4, 19.5 and 19.8
+  -- to 19.14). The streams or the datagrams are handed a frame, refused or not
   unfoldable pub handed_after : (time : ℕ) → FrameValue → At t → Behind t
   handed_after time frame a = refused_after time (handed_stop frame a.state.lower) (move_to (Hand frame) a)
 
@@ -309,7 +312,8 @@ module _ {t : Types} where
   item_after m coming id (Err fault) (Reads close a) = Ended (stopped_after coming.time (encoding_error_at fault.ty) a)
   item_after m coming id item (Ended a) = Ended a
 
-  -- the frames of a packet, in order, up to the first stop, or the first close of an Initial or Handshake packet
+  -- Frames of an admitted packet apply in order, up to the first that stops it (RFC 9000, section 12.4). The frames of a packet, in order, up to the
+  -- first stop, or the first close of an Initial or Handshake packet
   abbrev pub items_after : Meaning t → Coming → SpaceId → List Item → Course t → Course t
   items_after m coming id [] course = course
   items_after m coming id (item ∷ items) course = items_after m coming id items (item_after m coming id item course)

@@ -75,7 +75,8 @@ out_of None bytes = Nothing
 out_of (Some sent) bytes = Out sent.destination sent.segment_size sent.ecn bytes
 
 module _ {t : Types} where
-  -- how long a datagram of the application may be, where the peer takes any: it goes in a 1-RTT packet alone, in a datagram of the path
+  -- A datagram has the size that the peer takes, and a packet, at most (RFC 9221, section 3). How long a datagram of the application may be, where
+  -- the peer takes any: it goes in a 1-RTT packet alone, in a datagram of the path
   unfoldable pub datagram_limit : View t → Option ℕ
   datagram_limit s = max_size (path_size s) (length s.paths.current.remote_cid) (frame_size_of s.setup.peer)
 

@@ -1,6 +1,6 @@
 -- What a transmit may send, and what it leaves: a list of packets, each a step of what is carried along, and an ending. Which packets
 -- there are, in which datagrams, and which of the waiting frames each carries, is free; all else is a function of that choice.
-use Rattle.std.specs.Prelude.{min, is_some, ◌≡◌, ℕ, ◌+◌, ◌-◌, ◌<◌, ◌≤◌, ◌^◌, ◌==◌, ◌⊎◌, Bool, true, false, ◌||◌, ◌&&◌, not, nat_lt, nat_le, if◌then◌else◌, List, [], ◌∷◌, ◌++◌, length, replicate, Option, Some, None, Result}
+use Rattle.std.specs.Prelude.{min, is_some, option_map, ◌≡◌, ℕ, ◌+◌, ◌-◌, ◌<◌, ◌≤◌, ◌^◌, ◌==◌, ◌⊎◌, Bool, true, false, ◌||◌, ◌&&◌, not, nat_lt, nat_le, if◌then◌else◌, List, [], ◌∷◌, ◌++◌, length, replicate, Option, Some, None, Result}
 use Rattle.std.specs.List.{list_any}
 use Rattle.qc_base.specs.declared.ecn.EcnCodepoint.TheVariants.{Ect0}
 use Rattle.qc_base.specs.declared.side.LongType.TheVariants as long
@@ -10,7 +10,7 @@ use Rattle.qc_base.specs.declared.side.SpaceId.TheVariants.{Initial, Handshake, 
 use Rattle.qc_base.specs.declared.side.Side.{Side}
 use Rattle.qc_base.specs.PacketNumber.{number_of}
 use Rattle.qc_base.specs.Time.{plus}
-use Rattle.qc_frame.specs.Frame.{AckValue, FrameValue}
+use Rattle.qc_frame.specs.Frame.{FrameValue}
 use Rattle.qc_frame.specs.FrameSpelling.{elicits, frames_spelling}
 use Rattle.qc_frame.specs.declared.frames.FrameOf.TheVariants as frames
 use Rattle.qc_frame.specs.Sizes.{IsLongestReason}
@@ -20,6 +20,7 @@ use Rattle.qc_header.specs.declared.header.Header.TheVariants as header
 use Rattle.qc_packet.specs.declared.slot.Slot.{Slot}
 use Rattle.qc_packet.specs.Building.{min_size_of}
 use Rattle.qc_packet.specs.PacketSpelling.{sealed_packet}
+use Rattle.qc_path.specs.Mtu.{probe_due}
 use Rattle.qc_path.specs.Pacing.{pacing_delay, packet_paced, refilled}
 use Rattle.qc_path.specs.RoundTrips.{estimate}
 use Rattle.qc_path.specs.declared.controller.Controller.{Ghosts as Control}
@@ -40,18 +41,18 @@ use Rattle.qc_state.specs.declared.life.ConnectionError.TheVariants as lost
 use Rattle.qc_state.specs.declared.life.Life.{Life}
 use Rattle.qc_state.specs.declared.transmit.Batch.{Batch}
 use Rattle.qc_state.specs.declared.transmit.Transmit.{Transmit}
-use Rattle.qc_state.specs.declared.transmit.TheConstants.{DATAGRAM_SIZE}
+use Rattle.qc_state.specs.declared.transmit.TheConstants.{SPARE_ROOM}
 use Rattle.qc_state.specs.Forms.{is_one_rtt, number_space}
-use Rattle.qc_state.specs.Keys.{form_in, has_keys, header_key, packet_key, phase_now, reaches_limit, usage_of}
-use Rattle.qc_state.specs.Life.{is_open, is_closed, is_drained}
+use Rattle.qc_state.specs.Keys.{form_in, has_keys, has_keys_for, header_key, packet_key, phase_now, reaches_limit, usage_of}
+use Rattle.qc_state.specs.Life.{is_established, is_open, is_closed, is_drained}
 use Rattle.qc_state.specs.Acks.{AckPart, IsLongAck, is_ack, is_ack_owed, may_acknowledge}
 use Rattle.qc_state.specs.Allowed.{WaitAll}
 use Rattle.qc_state.specs.Draws.{bit}
 use Rattle.qc_state.specs.Flight.{counts_in_flight}
-use Rattle.qc_state.specs.Moves.{Begin, Skip, Seal, Take, Forget, Finish, Hold, Say, Spend, move_to, armed_with}
+use Rattle.qc_state.specs.Moves.{Begin, Skip, Seal, Take, Forget, Finish, Hold, Say, Spend, move_to, armed_with, state_move, Ask, Probe}
 use Rattle.qc_state.specs.Numbers.{next_number, coming_number, is_skipped, acked_number}
-use Rattle.qc_state.specs.Offers.{datagram_fits, datagram_waits, path_size, waits_in, wants_sending}
-use Rattle.qc_state.specs.Paths.{is_blocked_behind}
+use Rattle.qc_state.specs.Offers.{datagram_fits, datagram_waits, offers_in, path_size, waits_in, wants_sending}
+use Rattle.qc_state.specs.Paths.{is_blocked_behind, held_size, least_on}
 use Rattle.qc_state.specs.Spaces.{is_space, space_of}
 use Rattle.qc_state.specs.Setup.{behind_spin, takes_grease}
 use Rattle.qc_state.specs.Stopping.{key_limit_error, killed_after, stopped_after, violation_at}
@@ -107,12 +108,13 @@ pub record Sent : Type 0 where
   pub opens : Bool
   pub frames : List FrameValue
 
--- how a transmit ends: what it sealed goes, and perhaps the pacer holds a further datagram back; or it seals nothing, for this cause; or
--- the connection ends, for this reason
+-- how a transmit ends: what it sealed goes, and perhaps the pacer holds a further datagram back; or it seals nothing, for this cause, but
+-- perhaps a probe of the path's size, of so many bytes; or the connection ends, for this reason
 pub data Ending : Type 0 where
   Went : Ending
   Held : Ending
   Hushed : (quiet : Quiet) → Ending
+  Probed : (quiet : Quiet) → (size : ℕ) → Ending
   Died : (why : ConnectionError) → Ending
 
 -- what is free of an input: of a transmit the packets that it seals, one behind the other, and how it ends; of a read what it answers
@@ -146,33 +148,31 @@ quiet_by false false blocked held = Some NothingOwed
 quiet_by false true true held = Some Amplification
 quiet_by false true false held = held
 
--- what a transmit gives that ends so: its datagrams, where they go
-abbrev pub bytes_out : Ending → List ℕ → List ℕ
-bytes_out Went bytes = bytes
-bytes_out Held bytes = bytes
-bytes_out (Hushed quiet) bytes = []
-bytes_out (Died why) bytes = []
-
--- and where they go
+-- where the datagrams of a transmit go that ends so
 abbrev pub sent_out : Ending → Transmit → Option Transmit
 sent_out Went sent = Some sent
 sent_out Held sent = Some sent
 sent_out (Hushed quiet) sent = None
+sent_out (Probed quiet size) sent = Some (record sent { size = size; segment_size = None })
 sent_out (Died why) sent = None
 
 -- what is known of a transmit of at most so many datagrams that begins, with a close owed or without one, on a path whose datagrams have
--- at most so many bytes
-abbrev pub batch_begun : (closing : Bool) → (most segment : ℕ) → Batch
-batch_begun closing most segment = record {
+-- at most `segment` bytes, and are filled up to `least` that are to be; `pads` says that those with a packet of the Data space are padded up to
+-- the size of the others
+abbrev pub batch_begun : (closing pads : Bool) → (most segment least : ℕ) → Batch
+batch_begun closing pads most segment least = record {
   closing = closing;
+  pads = pads;
   most = most;
   made = 0;
   segment = segment;
+  least = least;
   capacity = 0;
   filled = 0;
   padding = 0;
   short = false;
   fills = false;
+  wide = false;
   total = 0;
   space = None;
   last = 0;
@@ -213,9 +213,18 @@ is_done b = b.made == 0 || (b.short || nat_lt (b.capacity - (b.filled - b.paddin
 abbrev pub is_whole : Batch → Bool
 is_whole b = b.made == 0 || b.filled == next_segment b
 
+-- how many bytes the open datagram is to have at least: where it is to have the size of the others, and may, so many; else as many as one that
+-- is filled up, where it is to be
+abbrev pub wanted_by : (wide fills : Bool) → Batch → ℕ
+wanted_by wide fills b = if wide && nat_le b.segment b.capacity then b.segment else if fills then b.least else 0
+
+-- so it is by the packets in it
+abbrev pub wanted_size : Batch → ℕ
+wanted_size b = wanted_by b.wide b.fills b
+
 -- the open datagram is filled up, where it is to be
 unfoldable pub is_closed_up : Batch → Bool
-is_closed_up b = not b.fills || nat_le DATAGRAM_SIZE b.filled
+is_closed_up b = nat_le (wanted_size b) b.filled
 
 -- where a packet opens a datagram, the one before it has the size of the others, and is filled up where it is to be
 abbrev pub IsBehind : Batch → (opens : Bool) → Type 0
@@ -233,13 +242,18 @@ batch_opened opens probes b =
     if opens then record b {
       made = plus b.made 1;
       segment = next_segment b;
-      capacity = if probes then min DATAGRAM_SIZE (next_segment b) else next_segment b;
+      capacity = if probes then min b.least (next_segment b) else next_segment b;
       filled = 0;
       padding = 0;
       short = false;
       fills = false;
+      wide = false;
     }
     else b
+
+-- a packet of this form is one of those whose datagram is padded up to the size of the others
+abbrev pub widens : Batch → Form → Bool
+widens b form = b.pads && is_space (number_space form) «Data»
 
 -- a packet of this form was sealed, with this number, so many bytes, and so many of PADDING among them, which fills up its datagram or
 -- doesn't, and whose key could seal only two packets more before, or more
@@ -250,6 +264,7 @@ batch_grown form number size padding fills nearly b =
       padding = plus b.padding padding;
       short = b.short || is_one_rtt form;
       fills = b.fills || fills;
+      wide = b.wide || widens b form;
       total = plus b.total size;
       space = Some (number_space form);
       last = number;
@@ -262,6 +277,10 @@ abbrev pub padding_in : List FrameValue → ℕ
 padding_in [] = 0
 padding_in (frames.Padding ∷ fs) = 1 + padding_in fs
 padding_in (_ ∷ fs) = padding_in fs
+
+-- how much of so much room these frames leave, PADDING aside
+abbrev pub room_beside : (room : ℕ) → List FrameValue → ℕ
+room_beside room fs = room + padding_in fs - length (frames_spelling fs)
 
 -- how far a transmit has come: the view with the deeds so far, what is known of its datagrams, and their bytes
 pub record Going (t : Types) : Type 0 where
@@ -321,7 +340,8 @@ module _ {t : Types} where
   unfoldable pub is_eager : View t → SpaceId → Bool
   is_eager s id = wants_in s id && (space_of s.waiting.spaces id).probes == 0
 
-  -- with so many bytes more those in flight would reach the congestion window
+  -- No more is in flight than the congestion window lets, probes and ACKs alone aside (RFC 9002, sections 7 and 7.5). With so many bytes more those
+  -- in flight would reach the congestion window
   unfoldable pub is_congested : Meaning t → View t → ℕ → Bool
   is_congested m s bytes = nat_le (m.control.window_of s.paths.current.kept.congestion) (plus (all_bytes s.lower.recovery) bytes)
 
@@ -329,7 +349,8 @@ module _ {t : Types} where
   unfoldable pub rate_of : Meaning t → View t → PathRate
   rate_of m s = path_rate m.control s.paths.current.kept
 
-  -- until when so many bytes are to wait for the pacer, at a time, if they are
+  -- A datagram that the pacer holds back goes at its timer (RFC 9002, section 7.7). Until when so many bytes are to wait for the pacer, at a time, if
+  -- they are
   unfoldable pub paced_until : Meaning t → (time : ℕ) → View t → ℕ → Option ℕ
   paced_until m time s bytes = pacing_delay (rate_of m s) bytes (refilled time (rate_of m s) s.paths.current.kept.pacing)
 
@@ -424,16 +445,16 @@ module _ {t : Types} where
 
   -- the token of an Initial packet leaves no room for the greatest close without a reason, which has 25 bytes, in a datagram of the
   -- size that it fills
-  unfoldable pub is_token_too_long : View t → Form → Bool
-  is_token_too_long s f = is_space (number_space f) Initial && nat_lt (room_of DATAGRAM_SIZE s form.Initial) 25
+  unfoldable pub is_token_too_long : Batch → View t → Form → Bool
+  is_token_too_long b s f = is_space (number_space f) Initial && nat_lt (room_of b.least s form.Initial) 25
 
   -- why the connection ends as a packet of this form is about to begin: its key has sealed as many packets as it may, or the packet
   -- numbers are used up, or its token leaves no room for frames; none, where it may begin
-  unfoldable pub kill_in : View t → Form → Option ConnectionError
-  kill_in s form =
+  unfoldable pub kill_in : Batch → View t → Form → Option ConnectionError
+  kill_in b s form =
       if is_key_used_up s form then Some (lost.TransportError key_limit_error)
       else if is_used_up s (number_space form) then Some internal_error
-      else if is_token_too_long s form then Some (lost.TransportError (violation_at None))
+      else if is_token_too_long b s form then Some (lost.TransportError (violation_at None))
       else None
 
   -- why a transmit seals nothing with this view, where the connection goes on
@@ -459,7 +480,7 @@ module _ {t : Types} where
   pub record IsPadded (b : Batch) (s : View t) (form : Form) (fs : List FrameValue) : Type 0 where
     pub enough : least_size s form ≤ packet_size s form fs
     pub spare :
-        (padding_in fs ≡ 0) ⊎ ((packet_size s form fs ≡ least_size s form) ⊎ ((((b.fills || fills_up s form fs) ≡ true) × (b.filled + packet_size s form fs ≡ DATAGRAM_SIZE))
+        (padding_in fs ≡ 0) ⊎ ((packet_size s form fs ≡ least_size s form) ⊎ ((b.filled + packet_size s form fs ≡ wanted_by (b.wide || widens b form) (b.fills || fills_up s form fs) b)
         ⊎ ((1 < b.made) × (padding_in fs ≤ 16) × (b.filled + packet_size s form fs ≡ b.segment))))
 
   -- a packet under the local keys, its fixed bit flipped or not; none without keys
@@ -539,7 +560,25 @@ module _ {t : Types} where
     pub now : form ≡ form_in s.keys (number_space form)
     pub place : MayStand m time s b (number_space form) opens
     pub behind : IsBehind b opens
-    pub fresh : kill_in s form ≡ None
+    pub fresh : kill_in b s form ≡ None
+
+  -- The size of the probe that is due at a time, if one is (RFC 8899, section 3; RFC 9000, section 14.4): the one that the search for a larger
+  -- datagram names, once the handshake is over, to an address that is validated.
+  unfoldable pub probe_size : (time : ℕ) → View t → Option ℕ
+  probe_size time s =
+      if is_established s.life.state && (s.paths.current.validated && has_keys_for s.keys form.OneRtt) then option_map held_size (probe_due time s.paths.current.kept.mtud)
+      else None
+
+  -- the frames of a probe of so many bytes: a PING, and PADDING up to them
+  unfoldable pub probe_frames : View t → (size : ℕ) → List FrameValue
+  probe_frames s size = frames.Ping ∷ replicate (size - packet_size s form.OneRtt (frames.Ping ∷ [])) frames.Padding
+
+  -- a probe of the path's size is sealed, of so many bytes, by a transmit that would seal nothing for this cause: nothing holds it back, and a
+  -- PING is all that it takes with it of what waits
+  pub record MayProbe (m : Meaning t) (time : ℕ) (s : View t) (b : Batch) (quiet : Quiet) (size : ℕ) : Type 0 where
+    pub none : b.made ≡ 0
+    pub cause : quiet_of m time s b ≡ Some quiet
+    pub due : probe_size time s ≡ Some size
 
   -- the connection ends for this reason: it is the turn of a space, there is a place for its packet, and that can't begin
   pub record Dies (m : Meaning t) (time : ℕ) (s : View t) (b : Batch) (why : ConnectionError) : Type 0 where
@@ -547,7 +586,14 @@ module _ {t : Types} where
     pub opens : Bool
     pub turn : HasTurn m s b space
     pub place : MayStand m time s b space opens
-    pub kill : kill_in s (form_in s.keys space) ≡ Some why
+    pub kill : kill_in b s (form_in s.keys space) ≡ Some why
+
+  -- so it does where a probe of the path's size is due, and can't begin
+  pub record DiesProbing (m : Meaning t) (time : ℕ) (s : View t) (b : Batch) (why : ConnectionError) : Type 0 where
+    pub quiet : Quiet
+    pub size : ℕ
+    pub may : MayProbe m time s b quiet size
+    pub kill : kill_in b s form.OneRtt ≡ Some why
 
   -- such an end drops the keys of its Initial space, if it has them still
   unfoldable pub drops_initial : Side → View t → SpaceId → Bool
@@ -589,9 +635,11 @@ module _ {t : Types} where
   packets_after m time [] g = g
   packets_after m time (p ∷ ps) g = packets_after m time ps (packet_after m time p g)
 
-  -- a packet may follow at a time, by the view and the batch before it: it may be begun, and carries what it may, among it something that its
-  -- space owed, unless it is the first of the transmit, and only an ACK was owed that has no room; with the PADDING that it is to have; in a
-  -- datagram of which it takes no more than there is, and which UDP can carry
+  -- A packet may follow at a time, by the view and the batch before it: it may be begun, and carries what it may, among it something that its
+  -- space owed, unless it is the first of the transmit, and only an ACK was owed that has no room. It is full: where its frames leave 64 bytes of
+  -- its room or more, PADDING aside, none is left in its space that could go with it. Where a probe was due, one of them elicits an
+  -- acknowledgement (RFC 9002, section 6.2.4), unless they leave too little room for one. It has the PADDING that it is to have, in a datagram of
+  -- which it takes no more than there is, and which UDP can carry.
   pub record MayFollow (m : Meaning t) (time : ℕ) (s : View t) (b : Batch) (p : Sent) : Type 0 where
     pub begins : MayBegin m time s b p.form p.opens
     pub sized : (begun_batch s (number_space p.form) p.opens b).capacity ≤ 65527
@@ -600,6 +648,10 @@ module _ {t : Types} where
     pub holds : b.closing ≡ false → (holds_owed (begun_view s (number_space p.form) p.opens) (number_space p.form) p.frames ≡ true)
         ⊎ ((b.made ≡ 0) × LacksAckRoom time (begun_view s (number_space p.form) p.opens) (number_space p.form)
         (room_in (begun_batch s (number_space p.form) p.opens b) (begun_view s (number_space p.form) p.opens) p.form))
+    pub full : b.closing ≡ false → SPARE_ROOM ≤ room_beside (room_in (begun_batch s (number_space p.form) p.opens b) (begun_view s (number_space p.form) p.opens) p.form) p.frames →
+        offers_in (state_move (Take (number_space p.form) p.frames) (begun_view s (number_space p.form) p.opens)) (number_space p.form) ≡ false
+    pub probes : b.closing ≡ false → ((space_of s.waiting.spaces (number_space p.form)).probes == 0) ≡ false →
+        (list_any elicits p.frames ≡ true) ⊎ (room_beside (room_in (begun_batch s (number_space p.form) p.opens b) (begun_view s (number_space p.form) p.opens) p.form) p.frames < SPARE_ROOM)
     pub padded : IsPadded (begun_batch s (number_space p.form) p.opens b) (begun_view s (number_space p.form) p.opens) p.form p.frames
     pub fits :
         (begun_batch s (number_space p.form) p.opens b).filled + packet_size (begun_view s (number_space p.form) p.opens) p.form p.frames ≤ (begun_batch s (number_space p.form) p.opens b).capacity
@@ -631,13 +683,14 @@ module _ {t : Types} where
     pub few : b.made < b.most
     pub held : limit_in m time s b space ≡ Some Pacing
 
-  -- how a transmit may end, by the view and the batch behind its packets: with datagrams; or without one, for the cause that there is,
-  -- or as a packet was to begin that can't
+  -- how a transmit may end, by the view and the batch behind its packets: with datagrams; or without one, for the cause that there is, where no
+  -- probe of the path's size is due; or with that probe; or as a packet was to begin that can't
   abbrev pub MayEnd : Meaning t → (time : ℕ) → Ending → View t → Batch → Type 0
   MayEnd m time Went s b = IsEnded time s b
   MayEnd m time Held s b = IsEnded time s b × IsHeld m time s b
-  MayEnd m time (Hushed quiet) s b = (b.made ≡ 0) × (quiet_of m time s b ≡ Some quiet)
-  MayEnd m time (Died why) s b = Dies m time s b why
+  MayEnd m time (Hushed quiet) s b = (b.made ≡ 0) × (quiet_of m time s b ≡ Some quiet) × (probe_size time s ≡ None)
+  MayEnd m time (Probed quiet size) s b = MayProbe m time s b quiet size × (kill_in b s form.OneRtt ≡ None)
+  MayEnd m time (Died why) s b = Dies m time s b why ⊎ DiesProbing m time s b why
 
   -- a client that sealed a Handshake packet leaves the Initial space
   abbrev pub handshake_left : ℕ → (shook : Bool) → At t → At t
@@ -665,20 +718,49 @@ module _ {t : Types} where
   held_after m time Congestion b a = a
   held_after m time Killed b a = a
 
+  -- the view and deeds as a probe of the path's size is begun: a PING waits, and the packet has the next number of 1-RTT packets; a probe that is
+  -- due for losses stays due
+  unfoldable pub probe_begun_after : Meaning t → ℕ → Quiet → Batch → At t → At t
+  probe_begun_after m time quiet b a = begun_after «Data» false (move_to (Ask «Data») (held_after m time quiet b a))
+
+  -- that probe is taken and sealed, and the search waits for it
+  unfoldable pub probe_sealed : Meaning t → (time size : ℕ) → Quiet → At t → At t
+  probe_sealed m time size quiet a = move_to (Probe time (next_number a.state.numbers «Data») size quiet) (sealed_in m time form.OneRtt (probe_frames a.state size) a)
+
+  -- then this end closes, where its key is nearly used up
+  unfoldable pub probed_after : Meaning t → (time size : ℕ) → Quiet → Batch → At t → At t
+  probed_after m time size quiet b a =
+      let begun : At t = probe_begun_after m time quiet b a in
+      spared_after time (is_key_nearly_used_up begun.state form.OneRtt) (probe_sealed m time size quiet begun)
+
+  -- the bytes of a transmit that ends so, behind its packets: those of its datagrams, or of the probe; none where the connection ends
+  abbrev pub bytes_out : Meaning t → ℕ → Ending → Batch → At t → (bytes : List ℕ) → List ℕ
+  bytes_out m time Went b a bytes = bytes
+  bytes_out m time Held b a bytes = bytes
+  bytes_out m time (Hushed quiet) b a bytes = []
+  bytes_out m time (Probed quiet size) b a bytes =
+      let begun : At t = probe_begun_after m time quiet b a in packet_bytes m begun.state form.OneRtt (probe_frames begun.state size)
+  bytes_out m time (Died why) b a bytes = []
+
   -- how a transmit ends: where the connection ends, nothing goes
   unfoldable pub ending_after : Meaning t → ℕ → Ending → Batch → At t → At t
   ending_after m time Went b a = finished_after m time b a
   ending_after m time Held b a = finished_after m time b (held_after m time Pacing b a)
   ending_after m time (Hushed quiet) b a = move_to (Say quiet) (held_after m time quiet b a)
+  ending_after m time (Probed quiet size) b a = probed_after m time size quiet b a
   ending_after m time (Died why) b a = move_to (Say Killed) (killed_after why a)
 
   -- how many datagrams a transmit may have that is asked for so many: one, where its datagrams can't stand behind each other
   abbrev pub most_of : View t → (asked : ℕ) → ℕ
   most_of s asked = if s.setup.fixed.segmentation then asked else 1
 
+  -- what is known of the datagrams of a transmit that begins
+  abbrev pub batch_from : (asked : ℕ) → View t → Batch
+  batch_from asked s = batch_begun s.waiting.close_owed s.setup.fixed.pads (most_of s asked) (path_size s) (least_on s.paths.current)
+
   -- a transmit begins
   abbrev pub going_from : (asked : ℕ) → At t → Going t
-  going_from asked a = going a (batch_begun a.state.waiting.close_owed (most_of a.state asked) (path_size a.state)) []
+  going_from asked a = going a (batch_from asked a.state) []
 
   -- what its packets leave
   unfoldable pub gone_after : Meaning t → (time asked : ℕ) → Choice → At t → Going t
@@ -695,7 +777,8 @@ module _ {t : Types} where
 
   -- the bytes of its datagrams
   unfoldable pub transmit_bytes : Meaning t → (time asked : ℕ) → Choice → At t → List ℕ
-  transmit_bytes m time asked choice a = bytes_out choice.ending (gone_after m time asked choice a).out
+  transmit_bytes m time asked choice a =
+      let g : Going t = gone_after m time asked choice a in bytes_out m time choice.ending g.batch g.now g.out
 
   -- where these datagrams go, and how
   unfoldable pub transmit_with : View t → Batch → Transmit

@@ -58,16 +58,16 @@ filed_steps _ = []
 abbrev pub meta_acked : StreamMeta → Step
 meta_acked meta = BytesAcked meta.id meta.start meta.end meta.fin
 
--- so are frames without bytes
+-- frames without bytes are acknowledged
 abbrev pub controls_acked : List FrameValue → List Step
 controls_acked [] = []
 controls_acked (f ∷ fs) = control_step ControlAcked (control_of f) ++ controls_acked fs
 
--- so is a packet, with its frames in their order
+-- a packet is acknowledged, with its frames in their order
 abbrev pub packet_acked : SentPacket → List Step
 packet_acked packet = controls_acked packet.frames ++ map meta_acked packet.stream_frames
 
--- so are packets
+-- the steps of packets that are acknowledged, one after the other
 unfoldable pub acked_steps : List Entry → List Step
 acked_steps [] = []
 acked_steps (e ∷ es) = packet_acked e.1 ++ acked_steps es
@@ -78,16 +78,17 @@ acked_steps (e ∷ es) = packet_acked e.1 ++ acked_steps es
 abbrev pub meta_lost : StreamMeta → Step
 meta_lost meta = BytesLost meta.id meta.start meta.end meta.fin
 
--- so are frames without bytes
+-- frames without bytes are lost
 abbrev pub controls_lost : List FrameValue → List Step
 controls_lost [] = []
 controls_lost (f ∷ fs) = control_step ControlLost (control_of f) ++ controls_lost fs
 
--- so is a packet, with its frames in their order
+-- a packet is lost, with its frames in their order
 unfoldable pub packet_lost : SentPacket → List Step
 packet_lost packet = controls_lost packet.frames ++ map meta_lost packet.stream_frames
 
--- so are packets
+-- What lost packets held of streams goes again, as far as it isn't acknowledged (RFC 9000, section 13.3): the steps of packets that are
+-- lost, one after the other
 unfoldable pub lost_steps : List Entry → List Step
 lost_steps [] = []
 lost_steps (e ∷ es) = packet_lost e.1 ++ lost_steps es

@@ -3,7 +3,7 @@
 use Rattle.std.specs.Prelude.{◌≡◌, ℕ, ◌+◌, ◌-◌, ◌≤◌, Bool, true, false, ◌&&◌, not, ◌⊎◌, if◌then◌else◌, List, [], ◌∷◌, ◌++◌, length, Option, is_some}
 use Rattle.qc_frame.specs.Frame.{FrameValue}
 use Rattle.qc_frame.specs.FrameFits.{Fits}
-use Rattle.qc_frame.specs.FrameSpelling.{frames_spelling}
+use Rattle.qc_frame.specs.FrameSpelling.{frames_spelling, spelling}
 use Rattle.qc_frame.specs.declared.frames.FrameOf.TheVariants as frames
 use Rattle.qc_state.specs.declared.events.Event.{Event}
 use Rattle.qc_state.specs.declared.events.Event.TheVariants.{DatagramsUnblocked}
@@ -36,19 +36,13 @@ ping_part w = if w.ping then frames.Ping ∷ [] else []
 unfoldable pub marks_part : SpaceWaiting → List FrameValue
 marks_part w = done_part w ++ ping_part w
 
--- CRYPTO frames with the bytes that wait first, one behind the other: they fit into the room, and leave less of it than the head of
+-- CRYPTO frames with the bytes that wait first, one behind the other: they fit into the room, and leave less of it than the greatest head of
 -- one more and a byte take, or no byte that waits
 unfoldable pub CryptoPart : SpaceWaiting → (room : ℕ) → List FrameValue → Type 0
 CryptoPart w room [] = (crypto_waits w ≡ false) ⊎ (room ≤ CRYPTO_HEAD)
 CryptoPart w room (frames.Crypto offset body ∷ fs) =
-    StartsWith w.crypto offset body × (length body + CRYPTO_HEAD ≤ room) × CryptoPart (without w (frames.Crypto offset body)) (room - (length body + CRYPTO_HEAD)) fs
+    StartsWith w.crypto offset body × (length (spelling (frames.Crypto offset body)) ≤ room) × CryptoPart (without w (frames.Crypto offset body)) (room - length (spelling (frames.Crypto offset body))) fs
 CryptoPart w room (_ ∷ fs) = ⊥
-
--- how much of the room such CRYPTO frames leave, each counted with the greatest size of its head
-abbrev pub room_behind : (room : ℕ) → (crypto : List FrameValue) → ℕ
-room_behind room [] = room
-room_behind room (frames.Crypto offset body ∷ fs) = room_behind (room - (length body + CRYPTO_HEAD)) fs
-room_behind room (_ ∷ fs) = room_behind room fs
 
 -- whether a frame is one of the streams
 abbrev pub is_streams_frame : FrameValue → Bool
@@ -92,30 +86,30 @@ pub record TakenPart (time : ℕ) (bundled : Option ℕ) (in_data : Bool) (w : S
   pub own : List FrameValue
   pub offered : AreOffered in_data own
   pub left : ℕ
-  pub fits : length (frames_spelling own) + left ≤ room_behind (room - length (marks_part w) - length (frames_spelling acks)) crypto
+  pub fits : length (frames_spelling own) + left ≤ room - length (marks_part w) - length (frames_spelling acks) - length (frames_spelling crypto)
   pub last : List FrameValue
   pub bundle : AckPart time w left last (is_ack_last time bundled w.acks)
   pub all : fs ≡ marks_part w ++ (acks ++ (crypto ++ (own ++ last)))
 
 -- frames of the streams were taken, and put behind other frames, each as one of their steps that may be; of so much room they leave this
--- much at least
+-- much
 pub record TakesStreams (in_data : Bool) (room : ℕ) (s s' : StreamsState) (fs gs : List FrameValue) (left : ℕ) : Type 0 where
   pub own : List FrameValue
   pub are : AreOfStreams in_data own
   pub may : AllMay (sealed_steps own) s
   pub leads : s' ≡ after (sealed_steps own) s
   pub list : gs ≡ fs ++ own
-  pub fits : length (frames_spelling own) + left ≤ room
+  pub fits : length (frames_spelling own) + left ≡ room
 
 -- DATAGRAM frames were taken, and put behind other frames, each with the oldest datagram that was to be sent then; of so much room they
--- leave this much at least
+-- leave this much
 pub record TakesDatagrams (room : ℕ) (d d' : Datagrams) (fs gs : List FrameValue) (left : ℕ) : Type 0 where
   pub own : List FrameValue
   pub are : AreDatagrams own
   pub oldest : AllOldest own d
   pub given : d' ≡ datagrams.after (sealed_datagrams own) d
   pub list : gs ≡ fs ++ own
-  pub fits : length (frames_spelling own) + left ≤ room
+  pub fits : length (frames_spelling own) + left ≡ room
 
 -- what is told where it was remembered before, or not, that a datagram had been refused because of a full buffer, and behind: that there is
 -- room again, where it is remembered no longer
@@ -130,18 +124,18 @@ AreOfIds (frames.RetireConnectionId sequence ∷ fs) = Fits (frames.RetireConnec
 AreOfIds (_ ∷ fs) = ⊥
 
 -- frames about connection ids were taken, and put behind other frames, each as the next one that waited then; of so much room they leave
--- this much at least
+-- this much
 pub record TakesIds (room : ℕ) (d d' : ConnectionIds) (fs gs : List FrameValue) (left : ℕ) : Type 0 where
   pub own : List FrameValue
   pub are : AreOfIds own
   pub next : AllNext own d
   pub told : d' ≡ ids.after (sealed_cids own) d
   pub list : gs ≡ fs ++ own
-  pub fits : length (frames_spelling own) + left ≤ room
+  pub fits : length (frames_spelling own) + left ≡ room
 
 -- Frames that the layers below offer were taken, and put behind other frames: those of the streams each as one of their steps that may be,
 -- each DATAGRAM with the oldest datagram that was to be sent then, and each about connection ids as the next one that waited then; of so
--- much room they leave this much at least
+-- much room they leave this much
 pub record TakesOffered {S : Type 0} (in_data : Bool) (room : ℕ) (l l' : Lower S) (fs gs : List FrameValue) (left : ℕ) : Type 0 where
   pub own : List FrameValue
   pub are : AreOffered in_data own
@@ -150,7 +144,7 @@ pub record TakesOffered {S : Type 0} (in_data : Bool) (room : ℕ) (l l' : Lower
   pub next : AllNext own l.ids
   pub leads : l' ≡ frames_sealed own l
   pub list : gs ≡ fs ++ own
-  pub fits : length (frames_spelling own) + left ≤ room
+  pub fits : length (frames_spelling own) + left ≡ room
 
 -- the ACK was taken where it was due and had room, and put behind other frames; it has so many bytes
 pub record TakesAck (time : ℕ) (due : Bool) (room : ℕ) (w w' : SpaceWaiting) (fs gs : List FrameValue) (len : ℕ) : Type 0 where
@@ -166,4 +160,4 @@ pub record TakesCrypto (room : ℕ) (w w' : SpaceWaiting) (fs gs : List FrameVal
   pub part : CryptoPart w room frames
   pub list : gs ≡ fs ++ frames
   pub rest : w' ≡ without_all w frames
-  pub behind : left ≡ room_behind room frames
+  pub fits : length (frames_spelling frames) + left ≡ room

@@ -32,8 +32,8 @@ least None b = b
 least (Some a) None = Some a
 least (Some a) (Some b) = if nat_le a b then Some a else Some b
 
--- when a connection ends that is idle from now on: its own limit or three probe timeouts, the longer one; without a
--- limit nothing changes
+-- Idle: the lesser limit, and three probe timeouts at least (RFC 9000, section 10.1). When a connection ends that is idle from now on: its own limit
+-- or three probe timeouts, the longer one; without a limit nothing changes
 abbrev pub idle_from : (limit before : Option ℕ) → (probe time : ℕ) → Option ℕ
 idle_from None before probe time = before
 idle_from (Some limit) before probe time = Some (plus time (max limit (times probe 3)))

@@ -37,6 +37,6 @@ module _ {t : Types} where
       ∷ (is_handshake s.life.state && is_other_source s.paths.peer_cid source, AckOnly)
       ∷ []
 
-  -- the verdict on the packet
+  -- What becomes of a packet is the first row of the verdicts that holds (RFC 9000, sections 5.2 and 12.2). The verdict on the packet
   unfoldable pub verdict_of : View t → SpaceId → (source token : List ℕ) → ℕ → Verdict
   verdict_of s id source token number = first_row (rows s id source token number) Admitted

@@ -100,7 +100,7 @@ confirmed w (frames.ApplicationClose code reason) = w
 confirmed w frames.HandshakeDone = w
 confirmed w (frames.Datagram body) = w
 
--- so were these frames
+-- an acknowledged packet's frames are confirmed, one after the other
 abbrev pub all_confirmed : SpaceWaiting → List FrameValue → SpaceWaiting
 all_confirmed w [] = w
 all_confirmed w (f ∷ fs) = all_confirmed (confirmed w f) fs

@@ -1,11 +1,14 @@
 //! The frames about connection ids that are taken for a packet.
 
-ghost use Rattle.std.specs.Prelude.{◌≡◌, ◌≤◌, Some, length, true, IfOk};
+ghost use Rattle.std.specs.Prelude.{◌≡◌, ◌≤◌, Some, None, length, true, false, IfOk};
+ghost use Rattle.qc_cids.specs.Cids.{next_retired, next_told};
 ghost use Rattle.qc_frame.specs.FrameFits.{Fits};
 ghost use Rattle.qc_frame.specs.FrameSpelling.{spelling};
 ghost use Rattle.qc_frame.specs.declared.frames.FrameOf.TheVariants as frames;
+ghost use Rattle.qc_state.specs.Offers.{ids_offer};
 ghost use Rattle.qc_state.specs.Taking.{TakesIds};
 
+use crate::transmit::SPARE_ROOM;
 use qc_base::varint_size;
 use qc_cids::ConnectionIds;
 use qc_frame::{FrameList, FrameOf, NewConnectionId};
@@ -15,7 +18,8 @@ use std::alloc::AllocError;
 #[tactic(auto, using(crate::proofs::IdsTaken::told_size))]
 fn told_len(new: &NewConnectionId) -> usize
     requires { Fits (frames.NewConnectionId new.now) }
-    ensures { result ≡ length (spelling (frames.NewConnectionId new.now)) }
+    ensures value { result ≡ length (spelling (frames.NewConnectionId new.now)) }
+    ensures most { result ≤ 54 }
 {
     1 + varint_size(new.sequence) + varint_size(new.retire_prior_to) + 1 + new.id.len() + 16
 }
@@ -27,7 +31,8 @@ fn take_told(
     room: usize,
     frames: &mut FrameList,
 ) -> Result<usize, AllocError>
-    ensures { IfOk result (λ left. TakesIds room ids.old ids.new frames.old frames.new left) }
+    ensures takes { IfOk result (λ left. TakesIds room ids.old ids.new frames.old frames.new left) }
+    ensures full { IfOk result (λ left. SPARE_ROOM ≤ left → next_told ids.new ≡ None) }
 {
     let mut left = room;
     loop {
@@ -51,7 +56,9 @@ fn take_retired(
     room: usize,
     frames: &mut FrameList,
 ) -> Result<usize, AllocError>
-    ensures { IfOk result (λ left. TakesIds room ids.old ids.new frames.old frames.new left) }
+    ensures takes { IfOk result (λ left. TakesIds room ids.old ids.new frames.old frames.new left) }
+    ensures full { IfOk result (λ left. SPARE_ROOM ≤ left → next_retired ids.new ≡ None) }
+    ensures rest { IfOk result (λ left. next_told ids.new ≡ next_told ids.old) }
 {
     let mut left = room;
     loop {
@@ -70,14 +77,15 @@ fn take_retired(
 
 /// Takes the frames about connection ids that wait, as many as fit: first those that tell ids. Answers how much of the room they leave.
 /// Want of memory is the only refusal.
-#[tactic(auto, using(crate::proofs::IdsTaken::takes_ids_both))]
 pub(crate) fn take_ids(
     ids: &mut ConnectionIds,
     room: usize,
     frames: &mut FrameList,
 ) -> Result<usize, AllocError>
-    ensures { IfOk result (λ left. TakesIds room ids.old ids.new frames.old frames.new left) }
+    ensures takes { IfOk result (λ left. TakesIds room ids.old ids.new frames.old frames.new left) }
+    ensures full { IfOk result (λ left. SPARE_ROOM ≤ left → ids_offer ids.new ≡ false) }
 {
-    let left = take_told(ids, room, frames)?;
-    take_retired(ids, left, frames)
+    let more = take_told(ids, room, frames)?;
+    let left = take_retired(ids, more, frames)?;
+    Ok(left)
 }

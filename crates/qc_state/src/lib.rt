@@ -57,5 +57,5 @@ pub use spaces::Spaces;
 pub use suite::{Means, Suite};
 pub use timers::Timers;
 pub use trace::{Answer, Refusal, Step, Trace};
-pub use transmit::{Batch, DATAGRAM_SIZE, JOINING_SIZE, Transmit};
+pub use transmit::{Batch, DATAGRAM_SIZE, JOINING_SIZE, SPARE_ROOM, Transmit};
 pub use waiting::{SpaceWaiting, Waiting};

@@ -1,14 +1,22 @@
 //! The path to the peer.
 
 ghost use Rattle.std.specs.Prelude.{◌≡◌, ◌≢◌, true, false};
-ghost use Rattle.qc_state.specs.Paths.{new_path, only_path, path_quiet, path_sent, path_received, path_accepted, path_spun, spun_by, path_named, peer_fixed, peer_id, is_blocked, is_blocked_behind, is_other_source, same_address};
+ghost use Rattle.qc_state.specs.Paths.{held_size, least_on, most_on, path_capped, path_probed, new_path, only_path, path_quiet, path_sent, path_received, path_accepted, path_spun, spun_by, path_named, peer_fixed, peer_id, is_blocked, is_blocked_behind, is_other_source, same_address};
 ghost use Rattle.std.specs.Net.Addr.{ipv4_octets, ipv6_segments};
 
 use crate::deeds::{Quiet, Verdict};
-use qc_base::{ConnectionId, Side, SpaceId};
+use crate::transmit::DATAGRAM_SIZE;
+use qc_base::{ConnectionId, Instant, Side, SpaceId};
+use qc_params::TransportParameters;
 use qc_path::Controller;
 use qc_recovery::PathData;
 use std::net::SocketAddr;
+
+/// No datagram that this end makes has more bytes.
+const MOST_SIZE: u16 = 16383;
+
+/// The greatest UDP payload that there is, in bytes (RFC 9000, 18.2).
+const MOST_PAYLOAD: u64 = 65527;
 
 /// A path to the peer (RFC 9000, 9).
 #[derive(Drop)]
@@ -21,6 +29,8 @@ pub struct Path<C: Controller> {
     pub validated: bool,
     /// Bytes sent to the peer's address. They stand still at 2^64 - 1.
     pub sent: u64,
+    /// The size of the path's first datagrams, in bytes. While its address isn't validated none has more.
+    pub first_mtu: u16,
     /// Bytes received from the peer's address, as far as they count (RFC 9000, 8.1). They stand still at 2^64 - 1.
     pub received: u64,
     /// What loss recovery keeps of the path: round trip times, and the congestion controller (RFC 9002).
@@ -53,7 +63,15 @@ fn spun_by(side: Side, bit: bool) -> bool
     }
 }
 
-#[tactic(auto, unfolding(crate::specs::Paths::new_path))]
+/// A size of datagrams, held between the bytes that each path takes (RFC 9000, 14) and those with which each length in a packet has two
+/// bytes at most.
+pub fn held_size(size: u16) -> u64
+    ensures { result ≡ held_size size }
+{
+    u64::from(size.min(MOST_SIZE)).max(DATAGRAM_SIZE)
+}
+
+#[tactic(auto, unfolding(crate::specs::Paths::new_path, crate::specs::Paths::most_on, crate::specs::Paths::least_on))]
 impl<C: Controller> Path<C> {
     /// A path on which nothing was sent or received so far, whose packets carry this id, and of which loss recovery keeps this.
     pub fn new(
@@ -69,13 +87,36 @@ impl<C: Controller> Path<C> {
             remote_cid,
             validated,
             sent: 0,
+            first_mtu: kept.mtud.current_mtu(),
             received: 0,
             kept,
         }
     }
+
+    /// How many bytes a datagram to the path may have: as many as its search found; while its address isn't validated, no more than it
+    /// began with.
+    pub fn most(&self) -> u64
+        ensures { result ≡ most_on self.now }
+    {
+        let found = self.kept.mtud.current_mtu();
+        let most = if self.validated {
+            found
+        } else {
+            self.first_mtu.min(found)
+        };
+        held_size(most)
+    }
+
+    /// Up to how many bytes a datagram to it is filled up that is to be: the size that each path takes, by the configuration, and at most
+    /// that.
+    pub fn least(&self) -> u64
+        ensures { result ≡ least_on self.now }
+    {
+        held_size(self.kept.mtud.least_mtu()).min(self.most())
+    }
 }
 
-#[tactic(auto, unfolding(crate::specs::Paths::only_path, crate::specs::Paths::path_sent, crate::specs::Paths::path_quiet, crate::specs::Paths::path_received, crate::specs::Paths::peer_fixed, crate::specs::Paths::path_named, crate::specs::Paths::path_accepted, crate::specs::Paths::path_spun, crate::specs::Paths::is_blocked, crate::specs::Paths::is_blocked_behind))]
+#[tactic(auto, unfolding(crate::specs::Paths::only_path, crate::specs::Paths::path_sent, crate::specs::Paths::path_quiet, crate::specs::Paths::path_received, crate::specs::Paths::peer_fixed, crate::specs::Paths::path_named, crate::specs::Paths::path_accepted, crate::specs::Paths::path_spun, crate::specs::Paths::is_blocked, crate::specs::Paths::is_blocked_behind, crate::specs::Paths::path_capped, crate::specs::Paths::path_kept, crate::specs::Paths::path_probed))]
 impl<C: Controller> Paths<C> {
     /// A connection's first path, with the id that the peer chose, where it did.
     pub fn new(path: Path<C>, peer_cid: Option<ConnectionId>) -> Paths<C>
@@ -156,6 +197,27 @@ impl<C: Controller> Paths<C> {
     {
         self.current.sent = self.current.sent.saturating_add(bytes);
         self.app_limited = false;
+    }
+
+    /// The greatest datagrams that the peer takes are known, by its parameters (RFC 9000, 18.2): those to it have no more bytes.
+    pub fn cap(&mut self, parameters: &TransportParameters)
+        ensures { self.new ≡ path_capped self.old parameters.now }
+    {
+        let most = parameters
+            .max_udp_payload_size
+            .into_inner()
+            .min(MOST_PAYLOAD);
+        self.current.kept.mtud.peer_takes(most as u16);
+    }
+
+    /// A probe of the path's size was sent, with this number and so many bytes, by a transmit that would have sent nothing for this cause: the
+    /// search waits for it, and the controller is told nothing.
+    pub fn probed(&mut self, now: Instant, number: u64, bytes: u64, quiet: Quiet)
+        ensures { self.new ≡ path_probed self.old now number bytes quiet }
+    {
+        self.current.sent = self.current.sent.saturating_add(bytes);
+        self.current.kept.mtud.probe_sent(now, number);
+        self.quiet(quiet);
     }
 
     /// Whether packets with this source id come from another end than the one that chose its id, where it did.

@@ -42,6 +42,8 @@ pub struct Fixed {
     pub key_phase_size: u64,
     /// Whether the datagrams of a transmit may stand behind each other in one buffer; else a transmit has at most one.
     pub segmentation: bool,
+    /// Whether each datagram that holds a packet of the Data space is padded up to the size of the others.
+    pub pads: bool,
 }
 
 /// What a connection was made with, and its source of random words.

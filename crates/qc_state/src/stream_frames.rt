@@ -1,13 +1,18 @@
 //! The frames of streams that are taken for a packet.
 
-ghost use Rattle.std.specs.Prelude.{◌≡◌, ◌<◌, ◌≤◌, ◌^◌, true, length, Some, IfOk};
+ghost use Rattle.std.specs.Prelude.{◌≡◌, ◌+◌, ◌<◌, ◌≤◌, ◌^◌, true, false, length, Some, None, IfOk};
 ghost use Rattle.qc_frame.specs.Frame.{owned};
 ghost use Rattle.qc_frame.specs.FrameFits.{Fits};
+ghost use Rattle.qc_frame.specs.FrameSpelling.{offset_spelling, spelling};
 ghost use Rattle.qc_frame.specs.declared.frames.FrameOf.TheVariants as frames;
+ghost use Rattle.qc_state.specs.Offers.{turn_waits};
 ghost use Rattle.qc_state.specs.StreamFrames.{control_of};
 ghost use Rattle.qc_state.specs.Taking.{TakesStreams};
+ghost use Rattle.qc_streams.specs.Control.{next_control};
+ghost use Rattle.qc_turns.specs.Ready.{next_turn};
 
-use qc_base::{StreamId, VarInt};
+use crate::transmit::SPARE_ROOM;
+use qc_base::{StreamId, VarInt, varint_size};
 use qc_frame::{FrameList, FrameOf, OwnedFrame};
 use qc_streams::{Control, StreamPart, StreamsState};
 use std::alloc::{AllocError, Global};
@@ -99,6 +104,26 @@ fn part_frame(alloc: Global, drawn: StreamPart) -> Result<OwnedFrame, AllocError
     })
 }
 
+/// How many bytes the offset of a STREAM frame has: none where that is 0 (RFC 9000, section 19.8).
+fn offset_len(offset: u64) -> usize
+    ensures value { result ≡ length (offset_spelling offset) }
+    ensures most { result ≤ 8 }
+{
+    if offset == 0 { 0 } else { varint_size(offset) }
+}
+
+/// How many bytes the STREAM frame has with a part of a stream, of at most 16383 bytes.
+#[tactic(auto, using(crate::proofs::StreamsTaken::part_size))]
+fn part_len(drawn: &StreamPart) -> usize
+    requires { length drawn.now.part.bytes ≤ 16383 }
+    ensures value { result ≡ length (spelling (frames.Stream drawn.now.id drawn.now.part.offset drawn.now.part.last drawn.now.part.bytes)) }
+    ensures most { result ≤ HEAD + length drawn.now.part.bytes }
+    ensures some { 0 < result }
+{
+    let len = drawn.part.bytes.len();
+    1 + varint_size(drawn.id) + offset_len(drawn.part.offset) + varint_size(len as u64) + len
+}
+
 /// Takes the frames without bytes that wait, as many as fit, and answers how much of the room they leave. Want of memory is the only
 /// refusal.
 pub(crate) fn take_controls(
@@ -106,7 +131,8 @@ pub(crate) fn take_controls(
     room: usize,
     frames: &mut FrameList,
 ) -> Result<usize, AllocError>
-    ensures { IfOk result (λ left. TakesStreams true room streams.old streams.new frames.old frames.new left) }
+    ensures takes { IfOk result (λ left. TakesStreams true room streams.old streams.new frames.old frames.new left) }
+    ensures full { IfOk result (λ left. SPARE_ROOM ≤ left → next_control SPARE_ROOM streams.new ≡ None) }
 {
     let mut left = room;
     loop {
@@ -127,14 +153,16 @@ pub(crate) fn take_parts(
     room: usize,
     frames: &mut FrameList,
 ) -> Result<usize, AllocError>
-    ensures { IfOk result (λ left. TakesStreams true room streams.old streams.new frames.old frames.new left) }
+    ensures takes { IfOk result (λ left. TakesStreams true room streams.old streams.new frames.old frames.new left) }
+    ensures full { IfOk result (λ left. HEAD < left → turn_waits (next_turn streams.new.waiting.ready) streams.new ≡ false) }
+    ensures rest { IfOk result (λ left. next_control SPARE_ROOM streams.new ≡ next_control SPARE_ROOM streams.old) }
 {
     let mut left = room;
     loop {
         let Some(drawn) = streams.draw_part(left.min(MOST))? else {
             return Ok(left);
         };
-        left -= HEAD + drawn.part.bytes.len();
+        left -= part_len(&drawn);
         let frame = part_frame(alloc, drawn)?;
         frames.push(frame)?;
     }

@@ -1,25 +1,28 @@
 //! The frames that are taken for a packet of a space, and in which order.
 
-ghost use Rattle.std.specs.Prelude.{◌≡◌, ◌<◌, ◌≤◌, ◌^◌, ◌++◌, ◌∷◌, [], true, false, length, OnOk, IfOk};
+ghost use Rattle.std.specs.Prelude.{◌≡◌, ◌+◌, ◌-◌, ◌<◌, ◌≤◌, ◌^◌, ◌||◌, ◌++◌, ◌∷◌, [], true, false, length, OnOk, IfOk};
 ghost use Rattle.qc_frame.specs.AckRanges.{ArePackets};
 ghost use Rattle.qc_frame.specs.Frame.{ack_map};
-ghost use Rattle.qc_frame.specs.FrameSpelling.{frames_spelling};
+ghost use Rattle.qc_frame.specs.FrameSpelling.{frames_spelling, spelling};
 ghost use Rattle.qc_state.specs.Acks.{AckPart, IsLongAck, SaysAck, is_ack_first, is_ack_last, is_ack_owed, may_acknowledge, told_count, told_counts};
 ghost use Rattle.qc_frame.specs.declared.frames.FrameOf.TheVariants as frames;
 ghost use Rattle.qc_state.specs.Taking.{TakenPart, TakesAck, TakesCrypto, TakesOffered, marks_part};
 ghost use Rattle.qc_state.specs.Datagrams.{AllOldest};
 ghost use Rattle.qc_state.specs.Ids.{AllNext};
 ghost use Rattle.qc_state.specs.Lower.{frames_sealed};
+ghost use Rattle.qc_state.specs.Offers.{ids_offer, offers_here, streams_offer};
 ghost use Rattle.qc_state.specs.StreamFrames.{sealed_steps};
-ghost use Rattle.qc_state.specs.Waiting.{without_all};
+ghost use Rattle.qc_state.specs.Waiting.{crypto_waits, without_all};
 ghost use Rattle.qc_streams.specs.Steps.{AllMay};
 
 use crate::datagrams::{first_size, take_datagrams};
 use crate::id_frames::take_ids;
 use crate::lower::Lower;
 use crate::stream_frames::{take_controls, take_parts};
+use crate::transmit::SPARE_ROOM;
 use crate::waiting::{CRYPTO_HEAD, SpaceWaiting};
-use qc_base::Instant;
+use bytes::Bytes;
+use qc_base::{Instant, varint_size};
 use qc_datagrams::Datagrams;
 use qc_frame::{Ack, EcnCounts, FrameList, FrameOf, OwnedAck, put_frame};
 use qc_path::PendingAcks;
@@ -145,9 +148,6 @@ fn take_ack(
     Ok(len)
 }
 
-/// How much room any one frame that waits takes at most, DATAGRAMs aside, whose bytes can be cut to what there is.
-const FRAME_ROOM: usize = 64;
-
 /// How much of the room an ACK in front of other frames may have: all of it where it is owed; else it leaves room for what is owed, be it
 /// any frame that waits, or the oldest datagram, where it fits.
 fn front_room(datagrams: &Datagrams, owed: bool, in_data: bool, room: usize) -> usize
@@ -162,7 +162,7 @@ fn front_room(datagrams: &Datagrams, owed: bool, in_data: bool, room: usize) -> 
     } else {
         0
     };
-    room.saturating_sub(datagram.max(FRAME_ROOM))
+    room.saturating_sub(datagram.max(SPARE_ROOM))
 }
 
 /// Takes the HANDSHAKE_DONE and the PING that wait, and answers how many frames that are. Want of memory is the only refusal.
@@ -186,6 +186,18 @@ fn take_marks(space: &mut SpaceWaiting, frames: &mut FrameList) -> Result<usize,
     Ok(count)
 }
 
+/// How many bytes a CRYPTO frame has with these bytes from this offset on (RFC 9000, section 19.6).
+#[tactic(auto, using(crate::proofs::Taken::crypto_size))]
+fn crypto_len(offset: u64, bytes: &Bytes) -> usize
+    requires { length bytes.now + CRYPTO_HEAD < 2 ^ 64 }
+    ensures value { result ≡ length (spelling (frames.Crypto offset bytes.now)) }
+    ensures most { result ≤ length bytes.now + CRYPTO_HEAD }
+    ensures some { 0 < result }
+{
+    let count = bytes.len();
+    1 + varint_size(offset) + varint_size(count as u64) + count
+}
+
 /// Takes the CRYPTO bytes that wait first, as many as fit, and answers how much of the room they leave. Want of memory is the only
 /// refusal.
 #[tactic(auto, unfolding(crate::specs::Taking::CryptoPart, crate::specs::Waiting::without_all, crate::specs::Waiting::without))]
@@ -195,14 +207,15 @@ fn take_crypto(
     room: usize,
     frames: &mut FrameList,
 ) -> Result<usize, AllocError>
-    ensures { IfOk result (λ left. TakesCrypto room space.old space.new frames.old frames.new left) }
+    ensures takes { IfOk result (λ left. TakesCrypto room space.old space.new frames.old frames.new left) }
+    ensures full { IfOk result (λ left. CRYPTO_HEAD < left → crypto_waits space.new ≡ false) }
 {
     let mut left = room;
     while left > CRYPTO_HEAD {
         match space.crypto.take(left - CRYPTO_HEAD)? {
             None => return Ok(left),
             Some((offset, bytes)) => {
-                left -= bytes.len() + CRYPTO_HEAD;
+                left -= crypto_len(offset, &bytes);
                 let body = Vec::from_slice(alloc, bytes.as_slice())?;
                 frames.push(FrameOf::Crypto { offset, body })?;
             }
@@ -220,7 +233,8 @@ pub(crate) fn take_offered<S>(
     room: usize,
     frames: &mut FrameList,
 ) -> Result<usize, AllocError>
-    ensures { IfOk result (λ left. TakesOffered in_data room lower.old lower.new frames.old frames.new left) }
+    ensures takes { IfOk result (λ left. TakesOffered in_data room lower.old lower.new frames.old frames.new left) }
+    ensures full { IfOk result (λ left. in_data ≡ true → SPARE_ROOM ≤ left → (streams_offer lower.new.streams || ids_offer lower.new.ids) ≡ false) }
 {
     if !in_data {
         return Ok(room);
@@ -248,6 +262,7 @@ pub(crate) fn take<S>(
     ensures oldest { IfOk result (λ frames. AllOldest frames lower.old.datagrams) }
     ensures next { IfOk result (λ frames. AllNext frames lower.old.ids) }
     ensures leads { IfOk result (λ frames. lower.new ≡ frames_sealed frames lower.old) }
+    ensures full { IfOk result (λ frames. SPARE_ROOM ≤ room - length (frames_spelling frames) → offers_here in_data space.new lower.new.streams lower.new.ids ≡ false) }
 {
     let mut frames = FrameList::new(alloc);
     let owed = is_ack_owed(&space.acks);

@@ -24,7 +24,7 @@ pub struct Timers {
     pub path_validation: Option<Instant>,
     /// When a PING keeps the connection open (RFC 9000, 10.1.2). No call sets it so far.
     pub keep_alive: Option<Instant>,
-    /// When a datagram that the pacer holds back may go (RFC 9002, 7.7). No call sets it so far, since sending isn't paced yet.
+    /// When a datagram that the pacer holds back may go (RFC 9002, 7.7).
     pub pacing: Option<Instant>,
     /// When new connection ids are asked for (RFC 9000, 5.1.2).
     pub push_new_cid: Option<Instant>,

@@ -1,7 +1,7 @@
 //! The datagrams of a transmit: what is known of them as it goes on, and where they go.
 
 ghost use Rattle.std.specs.Prelude.{◌≡◌, ◌-◌};
-ghost use Rattle.qc_state.specs.Sending.{batch_begun, batch_grown, batch_opened, is_done, is_last_in, is_whole, next_segment, takes_another};
+ghost use Rattle.qc_state.specs.Sending.{batch_begun, batch_grown, batch_opened, is_done, is_last_in, is_whole, next_segment, takes_another, wanted_size};
 
 use crate::form::Form;
 use crate::spaces::is_space;
@@ -16,17 +16,25 @@ pub const DATAGRAM_SIZE: u64 = 1200;
 /// frames, and a tag.
 pub const JOINING_SIZE: u64 = 103;
 
+/// How much of its room a packet leaves at most while frames wait that could go with it: each frame that cannot be cut has fewer bytes, and so
+/// has the head of any other with a byte of its own.
+pub const SPARE_ROOM: usize = 64;
+
 /// What is known of the datagrams of a transmit, as it goes on.
 #[derive(Clone, Copy)]
 pub struct Batch {
     /// Whether a close was owed as the transmit began.
     pub closing: bool,
+    /// Whether datagrams with a packet of the Data space are padded up to the size of the others.
+    pub pads: bool,
     /// How many datagrams there may be.
     pub most: u64,
     /// How many datagrams were begun.
     pub made: u64,
     /// How many bytes the first datagram may have, and behind it how many each has but the last.
     pub segment: u64,
+    /// Up to how many bytes one is filled up that is to be, and how many one for a probe may have at most.
+    pub least: u64,
     /// How many bytes the open datagram may have.
     pub capacity: u64,
     /// How many bytes it has. The count stands still at 2^64 - 1.
@@ -37,6 +45,8 @@ pub struct Batch {
     pub short: bool,
     /// Whether it is to be filled up.
     pub fills: bool,
+    /// Whether it is to have the size of the others, where it may.
+    pub wide: bool,
     /// How many bytes all of them have. The count stands still at 2^64 - 1.
     pub total: u64,
     /// The space of the last packet.
@@ -62,20 +72,24 @@ fn is_last_in(last: Option<SpaceId>, space: SpaceId) -> bool
 #[tactic(auto, unfolding(crate::specs::Sending::batch_opened, crate::specs::Sending::batch_grown, crate::specs::Sending::is_closed_up))]
 impl Batch {
     /// A transmit of at most `most` datagrams begins, with a close owed or without one, on a path whose datagrams have at most `segment`
-    /// bytes.
-    pub fn new(closing: bool, most: u64, segment: u64) -> Batch
-        ensures { result ≡ batch_begun closing most segment }
+    /// bytes, and are filled up to `least` that are to be. `pads` says that those with a packet of the Data space are padded up to the size of
+    /// the others.
+    pub fn new(closing: bool, pads: bool, most: u64, segment: u64, least: u64) -> Batch
+        ensures { result ≡ batch_begun closing pads most segment least }
     {
         Batch {
             closing,
+            pads,
             most,
             made: 0,
             segment,
+            least,
             capacity: 0,
             filled: 0,
             padding: 0,
             short: false,
             fills: false,
+            wide: false,
             total: 0,
             space: None,
             last: 0,
@@ -139,7 +153,7 @@ impl Batch {
         if opens {
             let segment = self.next_segment();
             self.capacity = if probes {
-                min(DATAGRAM_SIZE, segment)
+                min(self.least, segment)
             } else {
                 segment
             };
@@ -149,7 +163,21 @@ impl Batch {
             self.padding = 0;
             self.short = false;
             self.fills = false;
+            self.wide = false;
         }
+    }
+
+    /// How many bytes the open datagram is to have at least, by what its packets ask for.
+    pub fn wanted(&self) -> u64
+        ensures { result ≡ wanted_size self.now }
+    {
+        if self.wide && self.segment <= self.capacity {
+            return self.segment;
+        }
+        if self.fills {
+            return self.least;
+        }
+        0
     }
 
     /// A packet of this form was sealed, with this number, so many bytes, and so many of PADDING among them; `fills` says that it fills
@@ -169,6 +197,7 @@ impl Batch {
         self.padding = self.padding.saturating_add(padding);
         self.short = self.short || form.is_one_rtt();
         self.fills = self.fills || fills;
+        self.wide = self.wide || (self.pads && is_space(form.space(), SpaceId::Data));
         self.total = self.total.saturating_add(size);
         self.space = Some(form.space());
         self.last = number;

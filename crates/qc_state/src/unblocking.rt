@@ -1,11 +1,13 @@
 //! Frames are taken for a packet, and where a DATAGRAM among them gives room that one was refused for before, that is told.
 
-ghost use Rattle.std.specs.Prelude.{◌≡◌, OnOk, IfOk};
+ghost use Rattle.std.specs.Prelude.{◌≡◌, ◌-◌, ◌≤◌, false, length, OnOk, IfOk};
 ghost use Rattle.qc_base.specs.declared.side.SpaceId.TheVariants.{«Data»};
+ghost use Rattle.qc_frame.specs.FrameSpelling.{frames_spelling};
 ghost use Rattle.qc_state.specs.Datagrams.{AllOldest, sealed_datagrams, told_by_all};
 ghost use Rattle.qc_state.specs.Ids.{AllNext};
 ghost use Rattle.qc_state.specs.Life.{more_heard};
 ghost use Rattle.qc_state.specs.Lower.{frames_sealed};
+ghost use Rattle.qc_state.specs.Offers.{offers_here};
 ghost use Rattle.qc_state.specs.Spaces.{is_space, space_of};
 ghost use Rattle.qc_state.specs.StreamFrames.{sealed_steps};
 ghost use Rattle.qc_state.specs.Taking.{TakenPart, room_events};
@@ -14,6 +16,7 @@ ghost use Rattle.qc_streams.specs.Steps.{AllMay};
 
 use crate::life::Life;
 use crate::lower::Lower;
+use crate::transmit::SPARE_ROOM;
 use crate::waiting::Waiting;
 use qc_base::{Instant, SpaceId};
 use qc_frame::FrameList;
@@ -51,6 +54,7 @@ pub fn take_frames<S>(
     ensures oldest { IfOk result (λ frames. AllOldest frames lower.old.datagrams) }
     ensures next { IfOk result (λ frames. AllNext frames lower.old.ids) }
     ensures leads { IfOk result (λ frames. lower.new ≡ frames_sealed frames lower.old) }
+    ensures full { IfOk result (λ frames. SPARE_ROOM ≤ room - length (frames_spelling frames) → offers_here (is_space space «Data») (space_of waiting.new.spaces space) lower.new.streams lower.new.ids ≡ false) }
 {
     let before = lower.datagrams.blocked;
     let frames = waiting.take(lower, alloc, now, space, room)?;

@@ -1,9 +1,10 @@
 //! The frames that wait to be sealed.
 
-ghost use Rattle.std.specs.Prelude.{◌≡◌, ◌-◌, ◌==◌, not, true, false, map, OnOk, IfOk};
+ghost use Rattle.std.specs.Prelude.{◌≡◌, ◌-◌, ◌≤◌, ◌==◌, not, true, false, length, map, OnOk, IfOk};
 ghost use Rattle.std.specs.List.{list_any};
 ghost use Rattle.qc_base.specs.Time.{plus};
 ghost use Rattle.qc_frame.specs.Frame.{owned};
+ghost use Rattle.qc_frame.specs.FrameSpelling.{frames_spelling};
 ghost use Rattle.qc_state.specs.Acks.{AckPart, IsLongAck, is_ack, is_ack_owed, may_acknowledge};
 ghost use Rattle.qc_base.specs.declared.side.SpaceId.TheVariants.{«Data»};
 ghost use Rattle.qc_path.specs.Acks.{sets_delay};
@@ -11,6 +12,7 @@ ghost use Rattle.qc_state.specs.Spaces.{is_space, space_of, with_space};
 ghost use Rattle.qc_state.specs.Datagrams.{AllOldest};
 ghost use Rattle.qc_state.specs.Ids.{AllNext};
 ghost use Rattle.qc_state.specs.Lower.{frames_sealed};
+ghost use Rattle.qc_state.specs.Offers.{offers_here};
 ghost use Rattle.qc_state.specs.StreamFrames.{sealed_steps};
 ghost use Rattle.qc_state.specs.Taking.{TakenPart};
 ghost use Rattle.qc_state.specs.Waiting.{ack_released, bundle_next, came_in, close_begun, counts_begun, crypto_written, done_asked, fired_in, frames_again, holds_back, mark_counted, marks_begun, nothing_left, packet_came, packet_told, packets_acked, packets_lost, ping_asked, probe_spent, probes_added, space_left, waiting_without, wants_here};
@@ -21,6 +23,7 @@ use crate::lower::Lower;
 use crate::settling::{acknowledge, all_again, lose};
 use crate::spaces::Spaces;
 use crate::taking::{ack_alone, ack_fits, is_ack_owed, take};
+use crate::transmit::SPARE_ROOM;
 use bytes::Bytes;
 use qc_base::{EcnCodepoint, Instant, SpaceId};
 use qc_flight::PacketList;
@@ -401,6 +404,7 @@ impl Waiting {
         ensures oldest { IfOk result (λ frames. AllOldest frames lower.old.datagrams) }
         ensures next { IfOk result (λ frames. AllNext frames lower.old.ids) }
         ensures leads { IfOk result (λ frames. lower.new ≡ frames_sealed frames lower.old) }
+        ensures full { IfOk result (λ frames. SPARE_ROOM ≤ room - length (frames_spelling frames) → offers_here (is_space space «Data») (space_of self.new.spaces space) lower.new.streams lower.new.ids ≡ false) }
     {
         let bundled = self.bundled;
         let spaces = &mut self.spaces;

@@ -46,7 +46,7 @@ IsOptionInRange o = IfSome o (λ n. n < 2 ^ 64)
 abbrev pub IsErrorInRange : TransportFault → Type 0
 IsErrorInRange error = (error.code < 2 ^ 64) × IsOptionInRange error.frame
 
--- so have those of a close of the peer's, whose reason is bytes
+-- the code and the type in a close of the peer's have 64 bits, and its reason is bytes
 abbrev pub IsConnectionCloseInRange : (code : ℕ) → (frame_type : Option ℕ) → (reason : List ℕ) → Type 0
 IsConnectionCloseInRange code frame_type reason = (code < 2 ^ 64) × IsOptionInRange frame_type × IsBytes reason
 
@@ -182,7 +182,7 @@ pub record IsPlain (step : Step) : Type 0 where
 abbrev pub IsSpaceBelowLimit : SpaceWaiting → Type 0
 IsSpaceBelowLimit space = space.crypto.written < 2 ^ 62
 
--- so do those of every space
+-- the CRYPTO bytes of every space lie below 2^62
 abbrev pub IsBelowLimit : Waiting → Type 0
 IsBelowLimit waiting = IsSpaceBelowLimit waiting.spaces.initial × IsSpaceBelowLimit waiting.spaces.handshake × IsSpaceBelowLimit waiting.spaces.application
 

@@ -1,4 +1,4 @@
-use Rattle.std.proofs.Common.{◌≡◌, Bool, false, subst}
+use Rattle.std.proofs.Common.{◌≡◌, false, subst}
 use Rattle.std.specs.Result.{IfOk}
 use Rattle.qc_state.specs.Acks.{IsLongAck}
 use Rattle.qc_state.specs.Spaces.{space_of}

@@ -88,12 +88,12 @@ seal-requires-clause-small g c =
 -- what was begun, taken, planned, sealed and counted is one packet
 pub returns-clause-sends : goal.returns-clause-sends
 returns-clause-sends g c =
-    seals_taken c.args.opens _ c.is_key_nearly_used_up-nearly.result c.in_ok-sealed.sealed.fills c.in_ok-sealed.sealed.counts _ c.args.now c.args.form (going (held g.U.Random.Rng.stream c.args.core.now c.args.did.now) c.args.batch.now c.args.buf.now.items)
+    seals_taken c.args.opens _ c.is_probe_due-probes.result c.is_key_nearly_used_up-nearly.result c.in_ok-sealed.sealed.fills c.in_ok-sealed.sealed.counts _ c.args.now c.args.form (going (held g.U.Random.Rng.stream c.args.core.now c.args.did.now) c.args.batch.now c.args.buf.now.items)
     (ideal g.U.Random.Rng.stream c.begin.new.core) (ideal g.U.Random.Rng.stream c.take.new.core) _ _ c.begin.new.batch _ _ c.in_ok-plan.plan.next _ _ c.in_ok-plan.plan.least _ c.in_ok-sealed.sealed.size c.in_ok-sealed.sealed.padding c.in_ok-frames.frames
-    refl c.is_key_nearly_used_up-nearly.ensures c.requires.begins c.requires.roomy c.in_ok-begin.ensures.leads c.in_ok-begin.ensures.batch c.left-left.ensures c.frame_room-room.ensures.value
+    refl c.is_probe_due-probes.ensures c.is_key_nearly_used_up-nearly.ensures c.requires.begins c.requires.roomy c.in_ok-begin.ensures.leads c.in_ok-begin.ensures.batch c.left-left.ensures c.frame_room-room.ensures.value
     (loud_wide c.args.opens _ c.args.now _ _ c.args.batch.now c.begin.new.batch (held g.U.Random.Rng.stream c.args.core.now c.args.did.now) (ideal g.U.Random.Rng.stream c.begin.new.core) c.args.form c.requires.begins c.requires.roomy c.in_ok-begin.ensures.leads c.in_ok-begin.ensures.batch c.left-left.ensures c.frame_room-room.ensures.value
     c.frame_room-room.ensures.wide)
-    (c.next_number-number.ensures ∙ ap (λ id. next_number c.begin.new.core.numbers id) c.space.ensures) c.in_ok-frames.ensures.frames c.in_ok-frames.ensures.leads c.in_ok-plan.ensures.least
+    (c.next_number-number.ensures ∙ ap (λ id. next_number c.begin.new.core.numbers id) c.space.ensures) c.in_ok-frames.ensures.frames c.in_ok-frames.ensures.full c.in_ok-frames.ensures.probes c.in_ok-frames.ensures.leads c.in_ok-plan.ensures.least
     c.in_ok-sealed.ensures.leads c.in_ok-sealed.ensures.bytes c.in_ok-sealed.ensures.size c.in_ok-sealed.ensures.padding c.in_ok-sealed.ensures.fills c.in_ok-sealed.ensures.counts c.fly_after.ensures c.grow.ensures
 
 -- what was thought to follow it follows it

@@ -8,7 +8,7 @@ pub returns-clause-frames : goal.returns-clause-frames
 returns-clause-frames g c =
     closes_so _ (ideal g.U.Random.Rng.stream c.args.core.now) _ _ c.kept_reason.result.now c.in_ok-frames.frames _
     (ack_by _ _ _ _ _ _ c.saturating_sub-most.ensures c.in_ok-frames.ensures.frames)
-    (reason_kept (ideal g.U.Random.Rng.stream c.args.core.now) _ _ _ _ _ _ c.in_ok-frames.ensures.leads c.in_ok-left.ensures c.kept_reason.ensures)
+    (reason_kept (ideal g.U.Random.Rng.stream c.args.core.now) _ _ _ _ _ _ c.in_ok-frames.ensures.leads c.room_left-left.ensures c.kept_reason.ensures)
     (close_pushed (ideal g.U.Random.Rng.stream c.args.core.now) _ _ _ _ _ _ c.in_ok-frames.ensures.leads c.in_ok-close.ensures c.in_ok-push.ensures.ok)
 
 -- the close leaves all that waits

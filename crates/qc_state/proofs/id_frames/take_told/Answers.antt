@@ -17,13 +17,13 @@ told_len-len-requires c = told_fits c.loop-new.ids c.in-Some.new (sym c.next_tol
 pub loop-new-smaller : goal.loop-new-smaller
 loop-new-smaller c =
     let fits : Fits (frames.NewConnectionId c.in-Some.new) = told_fits c.loop-new.ids c.in-Some.new (sym c.next_told.ensures ∙ c.in-Some.is) (omega arith) (omega arith) in
-    omega (arith, c.told_len-len.ensures, told_size c.in-Some.new fits, c.if-left-len.false)
+    omega (arith, c.told_len-len.ensures.value, told_size c.in-Some.new fits, c.if-left-len.false)
 
 -- one frame more was taken
 pub loop-new-preserved : goal.loop-new-preserved
 loop-new-preserved c =
     let is : next_told c.loop-new.ids ≡ Some c.in-Some.new = sym c.next_told.ensures ∙ c.in-Some.is in
     let fits : Fits (frames.NewConnectionId c.in-Some.new) = told_fits c.loop-new.ids c.in-Some.new is (omega arith) (omega arith) in
-    subst (λ (n : ℕ). TakesIds c.args.room c.args.ids.now c.told.new.self c.args.frames.now c.push.new.self (c.loop-new.left - n)) (sym c.told_len-len.ensures)
+    subst (λ (n : ℕ). TakesIds c.args.room c.args.ids.now c.told.new.self c.args.frames.now c.push.new.self (c.loop-new.left - n)) (sym c.told_len-len.ensures.value)
     (told_taken c.args.room c.loop-new.left c.args.ids.now c.loop-new.ids c.told.new.self c.args.frames.now c.loop-new.frames c.push.new.self c.in-Some.new c.loop-new.invariant is
-    fits (subst (λ (n : ℕ). n ≤ c.loop-new.left) c.told_len-len.ensures (omega (arith, c.if-left-len.false))) c.told.ensures c.in_ok-push.ensures.ok)
+    fits (subst (λ (n : ℕ). n ≤ c.loop-new.left) c.told_len-len.ensures.value (omega (arith, c.if-left-len.false))) c.told.ensures c.in_ok-push.ensures.ok)
