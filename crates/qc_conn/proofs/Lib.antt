@@ -8,6 +8,7 @@ mod NewEnds
 mod NewIds
 mod NewLaws
 pub mod Posting
+mod Sealing
 mod Stores
 pub mod StreamCalls
 pub mod MarkSteps

@@ -5,6 +5,7 @@ use Rattle.std.specs.declared.net.SocketAddr.{SocketAddr}
 use Rattle.qc_base.specs.declared.side.Side.TheVariants.{Client, Server}
 use Rattle.qc_base.specs.declared.side.SpaceId.{SpaceId}
 use Rattle.qc_base.specs.declared.side.SpaceId.TheVariants.{Initial, Handshake, «Data»}
+use Rattle.qc_ids.specs.LocalCids.{first_local_cids}
 use Rattle.qc_recovery.specs.Calls.{begun_recovery}
 use Rattle.qc_recovery.specs.Steps.{no_space}
 use Rattle.qc_recovery.specs.Steps as recovery
@@ -36,8 +37,9 @@ same_chosen cid used h = cc
 module _ {t : Types} where
   made : (keys : SpaceKeys t.H t.P) (session : t.S) (hello token : List ℕ) (words : Stream) (fixed : Fixed) (paths : Paths t.C) (transport : TransportValues) (time : ℕ) →
       ((cid : List ℕ) → paths.peer_cid ≡ Some cid → cid ≡ paths.current.remote_cid) → HasNewIds (just_made {t = t} keys session hello token words fixed paths transport time)
+  unfolding first_local_cids
   made keys session hello token words fixed paths transport time chosen =
-      record { local = _; ids = refl; chosen = chosen; parameters = refl; handshake = refl; one_rtt = refl; flight = none_flown transport }
+      record { local = _; ids = refl; size = refl; chosen = chosen; parameters = refl; handshake = refl; one_rtt = refl; flight = none_flown transport }
 
   -- of a client
   client_new : (m : Meaning t) (session : t.S) (words : Stream) (fixed : Fixed) (remote : SocketAddr) (first_cid token : List ℕ) (transport : TransportValues) (congestion : t.C) (time : ℕ) →

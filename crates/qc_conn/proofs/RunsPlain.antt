@@ -2,7 +2,7 @@
 use Rattle.std.specs.Prelude.{is_none, option_to_list}
 use Rattle.std.proofs.Common.{◌≡◌, ℕ, ◌+◌, ◌-◌, ◌<◌, ◌≤◌, ◌^◌, ◌==◌, ◌||◌, Bool, true, false, if◌then◌else◌, List, [], ◌∷◌, ◌++◌, length, replicate, take, zero, suc, Option, Some, None, Result, Ok, Err, refl, sym, ap, ◌∙◌, subst, arith}
 use Rattle.std.specs.Prelude.{nat_lt, nat_le}
-use Rattle.std.specs.List.{All, list_all, list_any}
+use Rattle.std.specs.List.{All, list_any}
 use Rattle.std.specs.declared.net.socket_addr.SocketAddr.{SocketAddr}
 use Rattle.std.proofs.lemmas.Bool.Decides.{nat_tests}
 use Rattle.std.proofs.lemmas.List.Elements.{All-nil, All-cons, All-append}
@@ -61,6 +61,7 @@ use Rattle.qc_state.specs.declared.events.EndpointEvent.{EndpointEvent}
 use Rattle.qc_state.specs.declared.form.Form.{Form}
 use Rattle.qc_state.specs.declared.form.Form.TheVariants as form
 use Rattle.qc_state.specs.declared.keys.KeyGroup.{KeyGroup}
+use Rattle.qc_state.specs.declared.paths.Path.{Path}
 use Rattle.qc_state.specs.declared.paths.Paths.{Paths}
 use Rattle.qc_state.specs.declared.trace.Step.{Step}
 use Rattle.qc_state.specs.declared.transmit.Batch.{Batch}
@@ -68,22 +69,21 @@ use Rattle.qc_state.specs.declared.trace.Answer.TheVariants as answer
 use Rattle.qc_state.specs.declared.waiting.SpaceWaiting.{SpaceWaiting}
 use Rattle.qc_state.specs.declared.waiting.Waiting.{Waiting}
 use Rattle.qc_state.specs.Life.{is_closed, is_open, data_ready, datagram_heard, drained_event, identifiers_wanted, life_closed, life_drained, life_established, life_raised, reason_given, retirement_told, token_learned, token_told, notices_reported, drained_reported, lost_reported, connected_reported, ready_reported}
-use Rattle.qc_state.specs.Moves.{Move, Take, Seal, Forget, Raise, Say, Give, Enter, Fail, Accept, Fix, Hear, Ack, Fire, Arm, Pace, Release, Begin, Skip, Come, Read, Write, Ready, Learn, Establish, Tell, PeerClosesToo, PeerCloses, Owe, Shut, Hand, Insert, Switch, Retire, Issue, Outlive, Call, Post, IsTold, MayMove, told, state_move, move_to, deeds_move, life_move, paths_move, waiting_move, keys_move, Expect, Confirm, Token, Want, Spend, Hold, Finish}
+use Rattle.qc_state.specs.Moves.{Probe, Move, Take, Seal, Forget, Raise, Say, Give, Enter, Fail, Accept, Fix, Hear, Ack, Fire, Arm, Pace, Release, Begin, Skip, Come, Read, Write, Ready, Learn, Establish, Tell, PeerClosesToo, PeerCloses, Owe, Shut, Hand, Insert, Switch, Retire, Issue, Outlive, Call, Post, IsTold, MayMove, told, state_move, move_to, deeds_move, life_move, paths_move, waiting_move, keys_move, Expect, Confirm, Token, Want, Spend, Hold, Finish, Ask}
 use Rattle.qc_state.specs.Datagrams.{sent_answer, taken_answer, tells_datagram}
 use Rattle.qc_state.specs.Forms.{is_early, number_space}
 use Rattle.qc_state.specs.Ids.{active_limit}
 use Rattle.qc_state.specs.Keys.{epoch_in}
 use Rattle.qc_state.specs.Numbers.{next_number, received_number}
-use Rattle.qc_state.specs.Paths.{path_quiet, path_kept, path_named, path_sent, path_received, peer_fixed, path_accepted, path_spun, new_path, only_path}
+use Rattle.qc_state.specs.Paths.{path_quiet, path_kept, path_named, path_sent, path_received, peer_fixed, path_accepted, path_spun, new_path, only_path, path_capped}
 use Rattle.qc_state.specs.Receiving.{datagram_after, is_taken}
 use Rattle.qc_state.specs.Run.{time_of, began, close_after, called_all, datagram_limit, input_after, called, reported, step_after, IsAllowed, out_of, answer_of, IsStep, Run, Ran}
-use Rattle.qc_state.specs.Sending.{told_code, told_type, told_application_code, told_close, close_frame, closing_frame, IsKeptReason, Closes, packet_size, Carries, transmit_after, MayTransmit, transmit_bytes, transmit_of, transmit_with, Choice, Ending, Went, Hushed, Died, sent_out, gone_after}
+use Rattle.qc_state.specs.Sending.{told_code, told_type, told_application_code, told_close, close_frame, closing_frame, IsKeptReason, Closes, packet_size, Carries, transmit_after, MayTransmit, transmit_bytes, transmit_of, transmit_with, Choice, Ending, Went, Hushed, Probed, Died, sent_out, gone_after}
 use Rattle.qc_state.specs.Spaces.{space_of, with_space, is_space}
 use Rattle.qc_state.specs.Streams.{calls_of, closed_answer, count_written, finish_answer, is_given_to_streams, read_answer, write_answer}
 use Rattle.qc_state.specs.Timeouts.{timeout_after}
 use Rattle.qc_state.specs.Types.{Types, Meaning}
 use Rattle.qc_state.specs.View.{Held, View, At, ideal}
-use Rattle.qc_laws.specs.EventLaws.{OnlyDoneWaits, ends_in, is_heard}
 use Rattle.qc_state.specs.Polls.{endpoint_events}
 use Rattle.qc_state.specs.First.{first_view, server_view}
 use Rattle.qc_state.specs.declared.setup.Fixed.{Fixed}
@@ -91,6 +91,7 @@ use Rattle.qc_state.specs.Allowed.{Waits, WaitAll}
 use Rattle.qc_state.specs.Offers.{packet_begun}
 use Rattle.qc_state.specs.Waiting.{again, all_again, lost_in, confirmed, all_confirmed, acked_in, packets_lost, packets_acked, probes_added, probe_spent, frames_again, fired_in, ping_asked, waiting_without, close_begun, packet_told, came_in, packet_came, ack_released, bundle_next, crypto_more, crypto_written, nothing_left, space_left, without, without_all, done_asked}
 use Rattle.qc_state.proofs.Probed.{begun_holds, taken_space}
+use Rattle.qc_state.proofs.Quieted.{probed_current}
 use Rattle.qc_state.proofs.Expired.{IsTimed, holds_timeout}
 use Rattle.qc_state.proofs.IdsTaken.{retired_fits}
 use Rattle.qc_state.proofs.ReceivedMoves.{IsReceived}
@@ -512,7 +513,7 @@ module _ {t : Types} where
   keeps_next a b c g h = record { deeds = λ b p. h.deeds (g.crypto b) (g.deeds b p); crypto = λ p. h.crypto (g.crypto p); path = h.path ∙ g.path; notices = λ p k. h.notices (subst IsPlainAddress (sym g.path) p) (g.notices p k) }
 
   keeps_move : (x : Move t) → IsReceived x → (a : At t) → MayMove x a.state → Keeps a (move_to x a)
-  unfolding MayMove move_to state_move deeds_move waiting_move close_begun space_left packet_came came_in crypto_written done_asked paths_move path_kept path_named path_received path_accepted peer_fixed life_move data_ready life_established life_drained life_closed life_raised token_learned identifiers_wanted
+  unfolding MayMove move_to state_move deeds_move waiting_move close_begun space_left packet_came came_in crypto_written done_asked paths_move path_kept path_named path_received path_accepted peer_fixed life_move data_ready life_established life_drained life_closed life_raised token_learned identifiers_wanted path_capped
   keeps_move (Forget id) r a h = record { deeds = λ b p. p; crypto = set_below a.state.waiting id _ (nothing_below (space_of a.state.waiting.spaces id)); path = refl; notices = λ p k. k }
   keeps_move (Enter id n v) r a h = record { deeds = λ b. one_more a.did _ tt; crypto = λ p. p; path = refl; notices = λ p k. k }
   keeps_move (Expect token) r a h = record { deeds = λ b p. p; crypto = λ p. p; path = refl; notices = λ p k. k }
@@ -575,7 +576,8 @@ module _ {t : Types} where
 
   -- what a transmit does keeps the same: each of its moves but those that take and seal
   keeps_sending : (x : Move t) → IsSending x → (a : At t) → MayMove x a.state → Keeps a (move_to x a)
-  unfolding MayMove move_to state_move deeds_move waiting_move close_begun space_left paths_move path_kept path_sent life_move life_closed life_raised
+  unfolding MayMove move_to state_move deeds_move waiting_move ping_asked close_begun space_left paths_move path_kept path_sent life_move life_closed life_raised
+  keeps_sending (Ask id) r a h = record { deeds = λ b p. p; crypto = set_below a.state.waiting id _ (λ p. p); path = refl; notices = λ p k. k }
   keeps_sending (Begin id opens) r a h = record { deeds = λ b p. p; crypto = packet_below a.state id opens; path = refl; notices = λ p k. k }
   keeps_sending Skip r a h = record { deeds = λ b p. p; crypto = λ p. p; path = refl; notices = λ p k. k }
   keeps_sending (Arm time) r a h = record { deeds = λ b p. p; crypto = λ p. p; path = refl; notices = λ p k. k }
@@ -586,6 +588,7 @@ module _ {t : Types} where
   keeps_sending (Spend tokens) r a h = record { deeds = λ b p. p; crypto = λ p. p; path = refl; notices = λ p k. k }
   keeps_sending (Hold until) r a h = record { deeds = λ b p. p; crypto = λ p. p; path = refl; notices = λ p k. k }
   keeps_sending (Finish bytes control) r a h = record { deeds = λ b p. p; crypto = λ p. p; path = refl; notices = λ p k. k }
+  keeps_sending (Probe time n bytes q) r a h = record { deeds = λ b p. p; crypto = λ p. p; path = ap (λ (p : Path t.C). p.remote) (probed_current a.state.paths time n bytes q); notices = λ p k. k }
   keeps_sending (Say q) r a h = record { deeds = λ b. one_more a.did _ tt; crypto = λ p. p; path = quiet_remote a.state.paths q; notices = λ p k. k }
   keeps_sending _ r a h = absurd r
 
@@ -659,6 +662,7 @@ module _ {t : Types} where
   out_plain Went s b bytes h = h
   out_plain Ending.Held s b bytes h = h
   out_plain (Hushed quiet) s b bytes h = tt
+  out_plain (Probed quiet size) s b bytes h = h
   out_plain (Died why) s b bytes h = tt
 
   answer_plain : (m : Meaning t) (i : Input) (choice : Choice) (a : At t) → IsPlainAddress a.state.paths.current.remote → IsAnswerPlain (answer_of m i choice a)
@@ -779,21 +783,6 @@ module _ {t : Types} {R : Type 0} where
       let path : v.paths.current.remote ≡ remote = ap (λ (v : View t). v.paths.current.remote) made in
       let none : v.life.notices ≡ [] = ap (λ (v : View t). v.life.notices) made in
       record { crypto = (omega arith, omega arith, omega arith); address = subst IsPlainAddress (sym path) plain; notices = subst (All IsEndpointPlain) (sym none) (All-nil IsEndpointPlain) }
-
-module _ {t : Types} {R : Type 0} where
-  -- in a client that was just made nothing waits to be told
-  pub first_told : (stream : R → Stream) (m : Meaning t) (session : t.S) (words : Stream) (fixed : Fixed) (remote : SocketAddr) (first_cid token : List ℕ) (transport : TransportValues) (congestion : t.C) (time : ℕ) (v : Held t R) → ideal stream v ≡ first_view m session words fixed remote first_cid token transport congestion time
-      → OnlyDoneWaits v.life
-  unfolding first_view
-  first_told stream m session words fixed remote first_cid token transport congestion time v made =
-      record { lost = λ _. ap (λ (v : View t). v.life.lost) made; connected = λ _. ap (λ (v : View t). v.life.connected) made; drained = λ _. ap (λ (v : View t). v.life.drained) made; notices = ap (λ (v : View t). ends_in v.life.notices) made; heard = ap (λ (v : View t). list_all is_heard v.life.heard) made }
-
-  -- nor in such a server
-  pub server_told : (stream : R → Stream) (m : Meaning t) (session : t.S) (words : Stream) (fixed : Fixed) (remote : SocketAddr) (remote_cid : List ℕ) (validated : Bool) (transport : TransportValues) (congestion : t.C) (time : ℕ) (v : Held t R) → ideal stream v ≡ server_view m session words fixed remote remote_cid validated transport congestion time
-      → OnlyDoneWaits v.life
-  unfolding server_view
-  server_told stream m session words fixed remote remote_cid validated transport congestion time v made =
-      record { lost = λ _. ap (λ (v : View t). v.life.lost) made; connected = λ _. ap (λ (v : View t). v.life.connected) made; drained = λ _. ap (λ (v : View t). v.life.drained) made; notices = ap (λ (v : View t). ends_in v.life.notices) made; heard = ap (λ (v : View t). list_all is_heard v.life.heard) made }
 
 -- ---- two runs
 

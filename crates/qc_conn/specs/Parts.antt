@@ -8,6 +8,7 @@ use Rattle.qc_path.specs.declared.controller.ControllerFactory.{Ghosts as Contro
 use Rattle.qc_state.specs.Types.{Types}
 use Rattle.rand_core.specs.declared.Rng.{Ghosts as RngGhosts}
 
+-- the types that a connection is generic in, and what their calls mean, each by itself: the parts of a suite
 pub record SuiteParts : Type 1 where
   -- the suite, its session, what makes its controllers, and its source of random words
   pub suite : RattleType

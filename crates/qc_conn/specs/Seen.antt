@@ -2,6 +2,7 @@
 use Rattle.std.specs.Prelude.{◌≡◌, ℕ, ◌+◌, ◌<◌, ◌^◌, min, Bool, List, Option}
 use Rattle.qc_base.specs.declared.side.Side.{Side}
 use Rattle.qc_recovery.specs.TransportValues.{TransportValues}
+use Rattle.qc_laws.specs.SealLaws.{SealsGiven}
 use Rattle.qc_state.specs.declared.deeds.Did.{Did}
 use Rattle.qc_state.specs.declared.transmit.Transmit.{Transmit}
 use Rattle.qc_state.specs.First.{first_streams}
@@ -36,6 +37,11 @@ counted before steps = min (before + steps) 18446744073709551615
 pub record Sends {t : Types} (m : Meaning t) (time asked : ℕ) (s s' : View t) (sent : Option Transmit) (buffer : List ℕ) : Type 0 where
   pub deeds : List Did
   pub transmits : Transmits m time asked (began s time) (at s' deeds) sent buffer
+
+-- what it gives is datagrams of packets that are told as sealed, by the view before the call; or nothing
+pub record SendsSealed {t : Types} (m : Meaning t) (s : View t) (sent : Option Transmit) (buffer : List ℕ) : Type 0 where
+  pub deeds : List Did
+  pub seals : SealsGiven m s deeds sent buffer
 
 -- flow control is kept by what became of streams that were new, with windows of 64 bits (RFC 9000, sections 4.1 and 4.6)
 unfoldable pub KeepsCredit : (s s' : StreamsState) → Type 0

@@ -3,7 +3,7 @@
 ghost use Rattle.std.specs.Prelude.{◌≡◌, ◌<◌, ◌≤◌, [], true, false, length, None, Err, OnOk, OnErr, IfOk, IfSome, max, unwrap_or, string_bytes};
 ghost use Rattle.qc_text.specs.OneText.{IsPlainAddress, IsPlainStart};
 ghost use Rattle.qc_conn.specs.Opened.{OnDone, lost_of};
-ghost use Rattle.qc_conn.specs.Seen.{Sends, counted, with_streams};
+ghost use Rattle.qc_conn.specs.Seen.{Sends, SendsSealed, counted, with_streams};
 ghost use Rattle.qc_receive.specs.Cutting.{rest_of};
 ghost use Rattle.qc_receive.specs.Events.{GivesRight, IsExpected, LeavesBytes, handed_after, time_of_event};
 ghost use Rattle.qc_receive.specs.FirstPacket.{IsFirstPacket, first_reason, size_of};
@@ -15,7 +15,7 @@ ghost use Rattle.qc_laws.specs.AckLaws.{AckHolds};
 ghost use Rattle.qc_laws.specs.CryptoLaws.{CryptoKept};
 ghost use Rattle.qc_laws.specs.EndLaws.{Ends};
 ghost use Rattle.qc_laws.specs.EventLaws.{OnlyDoneWaits};
-ghost use Rattle.qc_state.specs.First.{first_view, server_view, fixed_of};
+ghost use Rattle.qc_state.specs.First.{allowed_by, first_view, server_view, fixed_of};
 ghost use Rattle.qc_state.specs.Life.{is_drained};
 ghost use Rattle.qc_state.specs.Moves.{Ask, Call, state_move};
 ghost use Rattle.qc_state.specs.Polls.{first_endpoint_event, first_event, polled, polled_endpoint};
@@ -107,7 +107,7 @@ impl<U: Suite> Connection<U> {
     ) -> Result<Connection<U>, AllocError>
         requires fresh { U.Session.is_fresh setup.session }
         requires client { U.Session.side_of setup.session ≡ Side.Client }
-        ensures made { IfOk result (λ c. (ideal U.Random.stream c.core) ≡ first_view ⟦<U as Means>⟧.meaning setup.session (U.Random.stream setup.random) (fixed_of Side.Client setup.version setup.local_cid setup.first_cid setup.cid_lifetime false setup.local_ip setup.transport setup.grease_quic_bit (U.Random.stream setup.random)) setup.remote setup.first_cid (unwrap_or (G.taken store.old (string_bytes setup.server_name)) []) setup.transport (U.Control.built setup.control now (first_size setup.transport None)) now) }
+        ensures made { IfOk result (λ c. (ideal U.Random.stream c.core) ≡ first_view ⟦<U as Means>⟧.meaning setup.session (U.Random.stream setup.random) (fixed_of Side.Client setup.version setup.local_cid setup.first_cid setup.cid_lifetime false setup.local_ip (allowed_by setup.allow_mtud setup.transport) setup.grease_quic_bit (U.Random.stream setup.random)) setup.remote setup.first_cid (unwrap_or (G.taken store.old (string_bytes setup.server_name)) []) (allowed_by setup.allow_mtud setup.transport) (U.Control.built setup.control now (first_size (allowed_by setup.allow_mtud setup.transport) None)) now) }
         ensures plain { IsPlainAddress setup.remote → IfOk result (λ c. IsPlainStart c.core.waiting c.core.paths c.core.life) }
         ensures told { IfOk result (λ c. OnlyDoneWaits c.core.life) }
         ensures ends { IfOk result (λ c. Ends (ideal U.Random.stream c.core)) }
@@ -139,7 +139,7 @@ impl<U: Suite> Connection<U> {
         now: Instant,
     ) -> Result<Connection<U>, AllocError>
         requires fresh { U.Session.is_fresh setup.session }
-        ensures made { IfOk result (λ c. (ideal U.Random.stream c.core) ≡ server_view ⟦<U as Means>⟧.meaning setup.session (U.Random.stream setup.random) (fixed_of Side.Server setup.version setup.local_cid setup.first_cid setup.cid_lifetime setup.preferred setup.local_ip setup.transport setup.grease_quic_bit (U.Random.stream setup.random)) setup.remote setup.remote_cid setup.validated setup.transport (U.Control.built setup.control now (first_size setup.transport None)) now) }
+        ensures made { IfOk result (λ c. (ideal U.Random.stream c.core) ≡ server_view ⟦<U as Means>⟧.meaning setup.session (U.Random.stream setup.random) (fixed_of Side.Server setup.version setup.local_cid setup.first_cid setup.cid_lifetime setup.preferred setup.local_ip (allowed_by setup.allow_mtud setup.transport) setup.grease_quic_bit (U.Random.stream setup.random)) setup.remote setup.remote_cid setup.validated (allowed_by setup.allow_mtud setup.transport) (U.Control.built setup.control now (first_size (allowed_by setup.allow_mtud setup.transport) None)) now) }
         ensures plain { IsPlainAddress setup.remote → IfOk result (λ c. IsPlainStart c.core.waiting c.core.paths c.core.life) }
         ensures told { IfOk result (λ c. OnlyDoneWaits c.core.life) }
         ensures ends { IfOk result (λ c. Ends (ideal U.Random.stream c.core)) }
@@ -307,11 +307,11 @@ impl<U: Suite> Connection<U> {
     /// Timers may have come by `now`: each that has, to that time or an earlier one, does what it is for, in this order. The loss
     /// timer: packets are lost, whose frames wait again, or probes are due (RFC 9002, 6.1.2 and 6.2.4); it is set anew. The idle
     /// timer: the connection ends at once, for `TimedOut`. The close timer: the connection, which closed before, ends. The pacing
-    /// timer: a datagram that was held back may go, by a transmit; so far none is held back, and the timer isn't set. The timer of this
-    /// end's ids: the peer is asked to retire those that have grown old, and others are wanted in their place (RFC 9000, 5.1.1). The
-    /// timer of an ACK that was held back: it is owed at last (RFC 9000, 13.2.1). Afterwards none of these five is left that has come;
-    /// the loss timer may stand at a time that has come again, as a probe timeout counts from the last packet that was sent. In a
-    /// connection that had ended nothing happens.
+    /// timer: a datagram that the pacer held back may go, by a transmit. The timer of this end's ids: the peer is asked to retire
+    /// those that have grown old, and others are wanted in their place (RFC 9000, 5.1.1). The timer of an ACK that was held back: it
+    /// is owed at last (RFC 9000, 13.2.1). Afterwards none of these five is left that has come; the loss timer may stand at a time
+    /// that has come again, as a probe timeout counts from the last packet that was sent. In a connection that had ended nothing
+    /// happens.
     ///
     /// # Errors
     ///
@@ -361,6 +361,7 @@ impl<U: Suite> Connection<U> {
         requires some { 1 ≤ max_datagrams }
         requires empty { buf.old.items ≡ [] }
         ensures sends { IfOk result (λ sent. Sends ⟦<U as Means>⟧.meaning now max_datagrams (ideal U.Random.stream self.old.core) (ideal U.Random.stream self.new.core) sent buf.new.items) }
+        ensures datagrams { IfOk result (λ sent. SendsSealed ⟦<U as Means>⟧.meaning (ideal U.Random.stream self.old.core) sent buf.new.items) }
         ensures clock { OnOk result (self.new.core.timers.greatest ≡ max self.old.core.timers.greatest now) }
         ensures alive { OnOk result (self.new.failed ≡ false) }
         ensures failed { self.old.failed ≡ true → (result ≡ Err Fault.Failed) × (self.new ≡ self.old) }

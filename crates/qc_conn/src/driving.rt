@@ -7,7 +7,8 @@ ghost use Rattle.qc_conn.specs.Refusal.{bad_call, bad_direction, bad_ids, refusa
 ghost use Rattle.qc_conn.specs.Seen.{KeepsCredit, counted};
 ghost use Rattle.qc_base.specs.declared.side.SpaceId.{SpaceId};
 ghost use Rattle.qc_laws.specs.AckLaws.{AckHolds, EachHoldsAck};
-ghost use Rattle.qc_laws.specs.CidLaws.{HasNewIds, TellsIssued, UsesPeers};
+ghost use Rattle.qc_laws.specs.AckedLaws.{AcksFrames};
+ghost use Rattle.qc_laws.specs.CidLaws.{HasNewIds, KeepsLength, TellsIssued, UsesPeers};
 ghost use Rattle.qc_laws.specs.CryptoLaws.{KeepsBytes};
 ghost use Rattle.qc_laws.specs.EndLaws.{Ends};
 ghost use Rattle.qc_conn.specs.Stored.{stored, tokens_in};
@@ -17,10 +18,12 @@ ghost use Rattle.qc_laws.specs.KeyLaws.{KeysHold};
 ghost use Rattle.qc_laws.specs.MarkLaws.{EachTold};
 ghost use Rattle.qc_laws.specs.IdLaws.{FoldsIds, IdsHold};
 ghost use Rattle.qc_laws.specs.PathLaws.{PathHolds, all_from};
+ghost use Rattle.qc_laws.specs.PieceLaws.{EachTellsPieces};
 ghost use Rattle.qc_state.specs.Headline.{deeds_of, EachRises, EachAdmitted, EachAcksKnown, Harmless, LifeRises, OnlyCloses, LosesOnce};
 ghost use Rattle.qc_laws.specs.PostLaws.{FoldsPosts, HasNewDatagrams, SealsSent, TakesTrace};
 ghost use Rattle.qc_laws.specs.ReadLaws.{HasNewStreams, ReadsTrace};
 ghost use Rattle.qc_laws.specs.WriteLaws.{SealsWritten};
+ghost use Rattle.qc_laws.specs.SealLaws.{EachSealsAnswer};
 ghost use Rattle.qc_laws.specs.RecoveryLaws.{EachSettlesOnce, Recovers};
 ghost use Rattle.qc_state.specs.Run.{time_of, Adds, Run, Ran};
 ghost use Rattle.qc_laws.specs.StreamLaws.{GivesStream};
@@ -302,6 +305,11 @@ pub fn drive<U: Suite, G: TokenStore>(
     ensures reason { IfOk result (λ trace. LosesOnce (ideal U.Random.stream connection.old.core) trace) }
     ensures reason_part { IfErr result (λ e. LosesOnce (ideal U.Random.stream connection.old.core) e.done) }
 
+    // What is told of packets that came, and of what the layers are given, is what the datagrams do. Each packet is told of, with its number
+    // where it opened, and with the first verdict whose row holds; and the layers are given what the applied frames of admitted packets give:
+    // those up to the first that stops its packet, in order, none left out and none made up.
+    ensures tells { IfOk result (λ trace. EachTellsPieces ⟦<U as Means>⟧.meaning 0 (ideal U.Random.stream connection.old.core) inputs.now trace (ideal U.Random.stream connection.new.core)) }
+
     // Just what came to pass is told, in the step in which it did, and each thing once: a loss with its reason, that the handshake is
     // over with the rise to Established, and the end with the rise to Drained; where nothing else waited to be told before.
     ensures told { OnlyDoneWaits connection.old.core.life → IfOk result (λ trace. EachTells (untold_of connection.old.core.life) trace) }
@@ -325,6 +333,10 @@ pub fn drive<U: Suite, G: TokenStore>(
     // frames that were given to them and of those that were sealed, and those of calls the ones of the inputs, which answer so.
     ensures folded { IfOk result (λ trace. FoldsStreams inputs.now trace (ideal U.Random.stream connection.old.core) (ideal U.Random.stream connection.new.core)) }
 
+    // Frames of theirs are acknowledged that stood in packets which loss recovery acknowledged, in order, and no others: an ACK acknowledges
+    // the number of such a packet, and it was sealed with these frames, where it wasn't in flight before.
+    ensures frames { Ends (ideal U.Random.stream connection.old.core) → IfOk result (λ trace. AcksFrames ⟦<U as Means>⟧.meaning inputs.now trace (ideal U.Random.stream connection.old.core) (ideal U.Random.stream connection.new.core)) }
+
     // Where they were new, what was read of each are the first bytes that came on it, each once; what sealed STREAM frames hold was written
     // there; and flow control is kept.
     ensures reads { HasNewStreams (ideal U.Random.stream connection.old.core) → IfOk result (λ trace. ReadsTrace inputs.now trace) }
@@ -342,10 +354,15 @@ pub fn drive<U: Suite, G: TokenStore>(
     // with which ids are given the inputs', and those with which frames are sealed the ones of the packets that are sealed.
     ensures identifiers { IfOk result (λ trace. FoldsIds inputs.now trace (ideal U.Random.stream connection.old.core) (ideal U.Random.stream connection.new.core)) }
 
-    // Where they were new, packets carry an id of the peer's that it gave and hasn't retired, those that are retired have lower numbers, and
-    // each id that is told was given.
+    // Where they were new, packets carry an id of the peer's that it gave and hasn't retired, those that are retired have lower numbers, each
+    // id that is told was given, and each that was given is as long as this end's first one, by which headers are cut.
     ensures uses { HasNewIds (ideal U.Random.stream connection.old.core) → IfOk result (λ trace. UsesPeers (deeds_of trace) (ideal U.Random.stream connection.old.core) (ideal U.Random.stream connection.new.core)) }
     ensures issues { HasNewIds (ideal U.Random.stream connection.old.core) → IfOk result (λ trace. TellsIssued inputs.now trace) }
+    ensures lengths { HasNewIds (ideal U.Random.stream connection.old.core) → IfOk result (λ trace. KeepsLength inputs.now trace (ideal U.Random.stream connection.old.core) (ideal U.Random.stream connection.new.core)) }
+
+    // What a transmit answers, cut at multiples of its segment size, is its datagrams, each of them the bytes of its packets; these are those that
+    // are told as sealed, in their order, under the keys of the epochs that are told.
+    ensures datagrams { IfOk result (λ trace. EachSealsAnswer ⟦<U as Means>⟧.meaning 0 (ideal U.Random.stream connection.old.core) inputs.now trace (ideal U.Random.stream connection.new.core)) }
 
     // An ACK of 1-RTT packets is held back for 25 ms at most, or until an ACK is sealed.
     ensures held { AckHolds (ideal U.Random.stream connection.old.core) → IfOk result (λ trace. EachHoldsAck ⟦<U as Means>⟧.meaning 0 (ideal U.Random.stream connection.old.core) inputs.now trace (ideal U.Random.stream connection.new.core)) }

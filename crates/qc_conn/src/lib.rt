@@ -23,13 +23,13 @@ pub use qc_base::{
     Side, SpaceId, StreamId, TransportError, TransportErrorCode, VarInt,
 };
 pub use qc_cids::GiveRefusal;
-pub use qc_config::TokenStore;
+pub use qc_config::{NoneTokenStore, TokenStore};
 pub use qc_core::Core;
 pub use qc_crypto::Session;
 pub use qc_frame::{FrameList, OwnedFrame};
 pub use qc_header::{InitialHeader, InitialPacket, PartialDecode};
 pub use qc_making::{ClientSetup, ServerSetup};
-pub use qc_path::ControllerFactory;
+pub use qc_path::{ControllerFactory, NewRenoConfig};
 pub use qc_receive::ConnectionEvent;
 pub use qc_recovery::TransportConfig;
 pub use qc_state::{

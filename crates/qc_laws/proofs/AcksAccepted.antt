@@ -24,7 +24,7 @@ use Rattle.qc_state.specs.Keys.{epoch_in}
 use Rattle.qc_state.specs.Forms.{number_space, is_early}
 use Rattle.qc_state.specs.Headline.{deeds_of, KnownBehind, AcksOnly, SealsKnown, AcksKnown, IsKept, EachAcksKnown}
 use Rattle.qc_state.specs.Life.{is_open}
-use Rattle.qc_state.specs.Moves.{Move, Clock, Ask, Take, Seal, Forget, Enter, Expect, Fail, Accept, Fix, Hear, Ack, Fire, Arm, Pace, Release, Begin, Skip, Come, Read, Write, Ready, Token, Learn, Want, Confirm, Establish, Tell, PeerClosesToo, PeerCloses, Owe, Shut, Raise, Give, Say, ReportReady, ReportConnected, ReportLost, ReportNotice, ReportNotices, ReportDrained, accepts, state_move, move_to, deeds_move, waiting_move, numbers_move, keys_move, life_move, MayMove, IsTold, told, arrival_of, Finish, Hand, Call, ReportStream, ReportStreams, told_to_streams, Post, ReportHeard, ReportAllHeard, Insert, Switch, Retire, Issue, Outlive, Hold, Spend}
+use Rattle.qc_state.specs.Moves.{Probe, Move, Clock, Ask, Take, Seal, Forget, Enter, Expect, Fail, Accept, Fix, Hear, Ack, Fire, Arm, Pace, Release, Begin, Skip, Come, Read, Write, Ready, Token, Learn, Want, Confirm, Establish, Tell, PeerClosesToo, PeerCloses, Owe, Shut, Raise, Give, Say, ReportReady, ReportConnected, ReportLost, ReportNotice, ReportNotices, ReportDrained, accepts, state_move, move_to, deeds_move, waiting_move, numbers_move, keys_move, life_move, MayMove, IsTold, told, arrival_of, Finish, Hand, Call, ReportStream, ReportStreams, told_to_streams, Post, ReportHeard, ReportAllHeard, Insert, Switch, Retire, Issue, Outlive, Hold, Spend}
 use Rattle.qc_state.specs.Numbers.{next_number}
 use Rattle.qc_state.specs.Offers.{packet_begun}
 use Rattle.qc_state.proofs.Probed.{begun_holds}
@@ -256,6 +256,7 @@ module _ {t : Types} where
   knows_move id (Spend tokens) a h k = silent_knows id (Spend tokens) a refl (λ n m. m)
   knows_move id (Hold until) a h k = silent_knows id (Hold until) a refl (λ n m. m)
   knows_move id (Finish bytes control) a h k = silent_knows id (Finish bytes control) a refl (λ n m. m)
+  knows_move id (Probe time n bytes q) a h k = silent_knows id (Probe time n bytes q) a refl (λ x m. m)
   knows_move id (Say q) a h k = deed_knows id (Say q) _ a refl tt (λ n m. m)
   knows_move id (Hand frame) a h k = handed_knows id frame a
   knows_move id (Insert new) a h k = deed_knows id (Insert new) _ a refl tt (λ n m. m)
@@ -313,6 +314,7 @@ module _ {t : Types} where
 
   -- what a transmit does beside sealing accepts nothing
   sending_knows : (x : Move t) (s : View t) → IsSending x → IsKnowing x s
+  sending_knows (Ask id) s r = tt
   sending_knows (Begin id opens) s r = tt
   sending_knows Skip s r = tt
   sending_knows (Arm at) s r = tt
@@ -323,6 +325,7 @@ module _ {t : Types} where
   sending_knows (Spend tokens) s r = tt
   sending_knows (Hold until) s r = tt
   sending_knows (Finish bytes control) s r = tt
+  sending_knows (Probe time n bytes q) s r = tt
   sending_knows (Say q) s r = tt
   sending_knows _ s r = absurd r
 

@@ -48,11 +48,11 @@ use Rattle.qc_state.specs.Ids.{active_limit, again_ids, fired_ids, preferred_ste
 use Rattle.qc_state.specs.Keys.{DataKeys, HandshakeKeys, NewKeys, NoKeys, count_one, epoch_in, failure_counted, key_used, keys_dropped, keys_given, ring_used}
 use Rattle.qc_state.specs.Life.{data_ready, identifiers_wanted, is_handshake, life_closed, life_drained, life_established, life_raised, reason_given, token_learned}
 use Rattle.qc_state.specs.Lower.{bytes_came, datagrams_stepped, flight_dropped, frame_handed, frames_sealed as frames_taken, ids_stepped, limits_learned, packet_flown, packets_settled, session_read, session_wrote, streams_closed, streams_stepped, timer_fired}
-use Rattle.qc_state.specs.Moves.{Accept, Ack, Arm, Begin, Clock, Establish, Expect, Fail, Finish, Fire, Fix, Forget, Give, Hand, Hear, Insert, IsTold as MayBeTold, Issue, Learn, MayMove, Move, Outlive, PeerCloses, PeerClosesToo, Raise, ReportAllHeard, ReportConnected, ReportDrained, ReportHeard, ReportLost, ReportNotice, ReportNotices, ReportReady, Retire, Say, Seal, Shut, Skip, Spend, Switch, Take, Tell, Want, Write, deeds_move, keys_move, life_move, lower_move, move_to, paths_move, setup_move, state_move}
+use Rattle.qc_state.specs.Moves.{Probe, Accept, Ack, Arm, Begin, Clock, Establish, Expect, Fail, Finish, Fire, Fix, Forget, Give, Hand, Hear, Insert, IsTold as MayBeTold, Issue, Learn, MayMove, Move, Outlive, PeerCloses, PeerClosesToo, Raise, ReportAllHeard, ReportConnected, ReportDrained, ReportHeard, ReportLost, ReportNotice, ReportNotices, ReportReady, Retire, Say, Seal, Shut, Skip, Spend, Switch, Take, Tell, Want, Write, deeds_move, keys_move, life_move, lower_move, move_to, paths_move, setup_move, state_move}
 use Rattle.qc_state.specs.Moves as moves
 use Rattle.qc_state.specs.Numbers.{next_number, received_number}
 use Rattle.qc_state.specs.Offers.{begun_ids, oldest_in, probe_ids, wants_sending}
-use Rattle.qc_state.specs.Paths.{path_accepted, path_kept, path_named, path_received, path_sent, path_spun, peer_fixed, spun_by}
+use Rattle.qc_state.specs.Paths.{path_accepted, path_kept, path_named, path_received, path_sent, path_spun, peer_fixed, spun_by, path_capped}
 use Rattle.qc_state.specs.Recovering.{fired_by, settled_by}
 use Rattle.qc_state.specs.Sending.{packet_size}
 use Rattle.qc_state.specs.Setup.{packet_drawn, parameters_known, token_expected, word_drawn}
@@ -60,7 +60,7 @@ use Rattle.qc_state.specs.Spaces.{is_space, space_of}
 use Rattle.qc_state.specs.Types.{Types, Meaning}
 use Rattle.qc_state.specs.View.{View, At}
 use Rattle.qc_state.specs.Waiting.{probe_spent}
-use Rattle.qc_state.proofs.Quieted.{quiet_chosen}
+use Rattle.qc_state.proofs.Quieted.{probed_chosen, quiet_chosen}
 use Rattle.qc_state.proofs.Probed.{begun_streams}
 use Rattle.qc_state.proofs.Telling.{told_appends}
 use Rattle.qc_state.proofs.Transmitted.{IsSealable}
@@ -135,9 +135,10 @@ IsOther _ = Unit {0}
 module _ {t : Types} where
   -- the id that the peer chose stays, but for the move with which it chooses one, and so do its parameters
   other_peer : (x : Move t) (s : View t) → IsOther x → (state_move x s).paths.peer_cid ≡ s.paths.peer_cid
-  unfolding state_move paths_move path_kept path_named path_received path_sent
+  unfolding state_move paths_move path_kept path_named path_received path_sent path_capped
   other_peer (Fix cid) s other = absurd other
   other_peer (Finish bytes control) s other = refl
+  other_peer (Probe time n bytes q) s other = probed_chosen s.paths time n bytes q
   other_peer (Spend tokens) s other = refl
   other_peer (Insert new) s other = refl
   other_peer Switch s other = refl
@@ -529,7 +530,7 @@ module _ {t : Types} (m : Meaning t) (first : List ℕ) (given : List (List ℕ)
   other_told x a other = record { since = deeds_move x a.state; appended = told_appends a.did (deeds_move x a.state); chosen = λ cid e. other_peer x a.state other ∙ e }
 
   fixed_peer : (x : Move t) (s : View t) → MayMove x s → (cid : List ℕ) → s.paths.peer_cid ≡ Some cid → (state_move x s).paths.peer_cid ≡ Some cid
-  unfolding MayMove state_move paths_move path_named
+  unfolding MayMove state_move paths_move path_named path_capped path_kept
   fixed_peer (Fix other) s may cid e = absurd (let none : s.paths.peer_cid ≡ None = may in cc)
   fixed_peer (Learn p) s may cid e = e
   fixed_peer x s may cid e = other_peer x s tt ∙ e
@@ -632,7 +633,7 @@ module _ {t : Types} (m : Meaning t) (first : List ℕ) (given : List (List ℕ)
 
   -- its parameters are read, where none were known
   pub later_learn : (p : TransportParameters) (a : At t) → IsKnownMove m (Learn p) a.state → a.state.setup.peer ≡ None → Later a (move_to (Learn p) a)
-  unfolding move_to state_move paths_move path_named setup_move parameters_known deeds_move
+  unfolding move_to state_move paths_move path_named setup_move parameters_known deeds_move path_capped path_kept
   later_learn p a k none = λ cid e. record {
     told = record { since = []; appended = sym (append-nil a.did); chosen = λ other is. is };
     holds = λ among h.

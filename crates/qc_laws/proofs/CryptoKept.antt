@@ -343,6 +343,8 @@ module _ {C : Type 0} where
   acked_append id (laws.Dropped space ∷ xs) ys = acked_append id xs ys
   acked_append id (laws.Spent tokens ∷ xs) ys = acked_append id xs ys
   acked_append id (laws.Told control ∷ xs) ys = acked_append id xs ys
+  acked_append id (laws.Capped size ∷ xs) ys = acked_append id xs ys
+  acked_append id (laws.Probed time n ∷ xs) ys = acked_append id xs ys
 
 owed_acked : (C : Type 0) (id : SpaceId) (owed : Bool) (space : SpaceId) (n : ℕ) (packet : SentPacket) → laws.acked_in {C = C} id (if owed then [] else laws.Sent space n packet ∷ []) ≡ []
 owed_acked C id true space n packet = refl

@@ -32,11 +32,11 @@ use Rattle.qc_state.specs.Flight.{flown_packet}
 use Rattle.qc_state.specs.Forms.{number_space}
 use Rattle.qc_state.specs.Ids.{again_ids, fired_ids, lost_cid, lost_cids, lost_ids, preferred_cid, preferred_steps, sealed_cid, sealed_cids}
 use Rattle.qc_state.specs.Lower.{bytes_came, datagrams_stepped, events_told, flight_dropped, frame_handed, frames_sealed, ids_stepped, limits_learned, packet_flown, packets_settled, session_read, session_wrote, streams_closed, streams_stepped, timer_fired}
-use Rattle.qc_state.specs.Moves.{Accept, Ack, Begin, Clock, Finish, Fire, Fix, Forget, Hear, Insert, Issue, Learn, MayMove, Move, Outlive, Retire, Say, Seal, Spend, Switch, Take, Want, lower_move, move_to, paths_move, state_move}
+use Rattle.qc_state.specs.Moves.{Probe, Accept, Ack, Begin, Clock, Finish, Fire, Fix, Forget, Hear, Insert, Issue, Learn, MayMove, Move, Outlive, Retire, Say, Seal, Spend, Switch, Take, Want, lower_move, move_to, paths_move, state_move}
 use Rattle.qc_state.specs.Moves as moves
 use Rattle.qc_state.specs.Numbers.{next_number, received_number}
 use Rattle.qc_state.specs.Offers.{begun_ids, oldest_in, probe_ids, wants_sending}
-use Rattle.qc_state.specs.Paths.{path_accepted, path_kept, path_named, path_received, path_sent, path_spun, peer_fixed, spun_by}
+use Rattle.qc_state.specs.Paths.{path_accepted, path_kept, path_named, path_received, path_sent, path_spun, peer_fixed, spun_by, path_capped}
 use Rattle.qc_state.specs.Run.{IsStep, Run, began, called, reported, step_after, time_of}
 use Rattle.qc_state.specs.Sending.{packet_size}
 use Rattle.qc_state.specs.Spaces.{space_of}
@@ -44,7 +44,7 @@ use Rattle.qc_state.specs.Types.{Types, Meaning}
 use Rattle.qc_state.specs.View.{View, At}
 use Rattle.qc_state.specs.Waiting.{probe_spent}
 use Rattle.qc_state.proofs.Probed.{begun_streams}
-use Rattle.qc_state.proofs.Quieted.{quiet_chosen, quiet_current}
+use Rattle.qc_state.proofs.Quieted.{probed_chosen, probed_current, quiet_chosen, quiet_current}
 use Rattle.qc_state.proofs.Transmitted.{IsSealable}
 use Rattle.qc_laws.specs.IdLaws.{IdsHold}
 use Rattle.qc_laws.proofs.KnownMoves.{IsKnownMove, known_input}
@@ -209,12 +209,13 @@ module _ {t : Types} (m : Meaning t) where
 
   -- each move
   ids_move : (x : Move t) (s : View t) → IsKnownMove m x s → MayMove x s → IdsHold s (state_move x s)
-  unfolding state_move lower_move paths_move path_kept path_named path_received path_sent peer_fixed MayMove frames_sealed ids_stepped streams_stepped datagrams_stepped bytes_came session_read session_wrote flight_dropped packets_settled timer_fired frame_handed streams_closed limits_learned after after_step
+  unfolding state_move lower_move paths_move path_kept path_named path_received path_sent peer_fixed MayMove frames_sealed ids_stepped streams_stepped datagrams_stepped bytes_came session_read session_wrote flight_dropped packets_settled timer_fired frame_handed streams_closed limits_learned after after_step path_capped
   ids_move (Clock time) s known may = absurd known
   ids_move (Take id fs) s known may = absurd known
   ids_move (Seal time form n size fs) s known may = absurd known
   ids_move (Spend tokens) s known may = ids_by s _ refl (record { chosen = refl; used = refl })
   ids_move (Finish bytes control) s known may = ids_by s _ refl (record { chosen = refl; used = refl })
+  ids_move (Probe time n bytes q) s known may = ids_by s _ refl (record { chosen = probed_chosen s.paths time n bytes q; used = ap (λ (p : Path t.C). p.remote_cid) (probed_current s.paths time n bytes q) })
   ids_move (Fix cid) s known may = record {
     chosen = λ other e. cc (may, e);
     carried = λ k. record { some = renamed_some cid s.lower.ids.remote k.some; used = renamed_active cid s.lower.ids.remote k.some };

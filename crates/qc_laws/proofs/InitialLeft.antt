@@ -35,7 +35,7 @@ use Rattle.qc_state.specs.Numbers.{is_skipped, next_number}
 use Rattle.qc_state.specs.Paths.{is_blocked}
 use Rattle.qc_state.specs.Receiving.{accepted_after, admitted_after, datagram_after, fixed_after, is_close_item, is_eliciting_item, read_for_close, received_after, signs_of, verdict_after}
 use Rattle.qc_state.specs.Run.{IsAllowed, IsStep, Run, began, called, close_after, input_after, reported, step_after, time_of, datagram_limit}
-use Rattle.qc_state.specs.Sending.{Choice, Died, Ending, Going, Held, Hushed, MayAll, MayEnd, MayFollow, MayTransmit, Sent, Went, batch_grown, begun_after, begun_batch, drops_initial, ending_after, finished_after, flown_after, going_from, gone_after, handshake_left, held_after, initial_left, is_flown, is_in_order, leaves_initial, packet_after, packet_size, packets_after, sealed_in, skipped_after, spared_after, spent_after, told_sent, transmit_after}
+use Rattle.qc_state.specs.Sending.{Choice, Died, Ending, Going, Held, Hushed, MayAll, MayEnd, MayFollow, MayTransmit, Probed, Sent, Went, batch_grown, begun_after, begun_batch, drops_initial, ending_after, finished_after, flown_after, going_from, gone_after, handshake_left, held_after, initial_left, is_flown, is_in_order, leaves_initial, packet_after, packet_size, packets_after, sealed_in, skipped_after, spared_after, spent_after, told_sent, transmit_after}
 use Rattle.qc_state.specs.Setup.{packet_drawn, parameters_known, token_expected, word_drawn}
 use Rattle.qc_state.specs.Stopping.{given_after, killed_after}
 use Rattle.qc_state.specs.Spaces.{is_space, space_of}
@@ -342,16 +342,16 @@ module _ {t : Types} where
   begun_deeds_by a true = refl
   begun_deeds_by a false = refl
 
-  begun_deeds : (id : SpaceId) (opens : Bool) (a : At t) → (begun_after id opens a).did ≡ a.did
+  pub begun_deeds : (id : SpaceId) (opens : Bool) (a : At t) → (begun_after id opens a).did ≡ a.did
   unfolding begun_after skipped_after move_to deeds_move
   begun_deeds id opens a = begun_deeds_by (move_to (Begin id opens) a) (is_skipped (move_to (Begin id opens) a).state.numbers id)
 
-  flown_deeds : (m : Meaning t) (time size : ℕ) (a : At t) (b : Bool) → (flown_after m time size b a).did ≡ a.did
+  pub flown_deeds : (m : Meaning t) (time size : ℕ) (a : At t) (b : Bool) → (flown_after m time size b a).did ≡ a.did
   unfolding armed_with spent_after move_to deeds_move
   flown_deeds m time size a true = refl
   flown_deeds m time size a false = refl
 
-  sealed_deeds : (time : ℕ) (form : Form) (n size : ℕ) (fs : List FrameValue) (c : At t) →
+  pub sealed_deeds : (time : ℕ) (form : Form) (n size : ℕ) (fs : List FrameValue) (c : At t) →
       (move_to (Seal time form n size fs) (move_to (Take (number_space form) fs) c)).did ≡ c.did ++ did.Sealed (number_space form) n (epoch_in c.state.keys form) (is_early form) fs ∷ []
   unfolding move_to deeds_move state_move keys_move
   sealed_deeds time form n size fs c = refl
@@ -406,10 +406,21 @@ module _ {t : Types} where
   ending_left m time Went b a may some client shook = inl (finished_gone m time b a client shook)
   ending_left m time Held b a may some client shook = inl (finished_gone m time b (held_after m time Pacing b a) (held_side m time b a ∙ client) shook)
   ending_left m time (Hushed quiet) b a may some client shook = let none : b.made ≡ 0 = may.0 in absurd (omega (arith, none, some))
+  ending_left m time (Probed quiet size) b a may some client shook = let none : b.made ≡ 0 = may.0.none in absurd (omega (arith, none, some))
   ending_left m time (Died why) b a may some client shook = inr (killed_ended why a)
 
+  -- a packet of the Data space is nothing of the Initial space
+  data_quiet : (time n size : ℕ) (fs : List FrameValue) (a : At t) → Quiet ⊥ a (move_to (Seal time form.OneRtt n size fs) (move_to (Take «Data» fs) a))
+  data_quiet time n size fs a = record {
+    since = did.Sealed «Data» n (epoch_in a.state.keys form.OneRtt) (is_early form.OneRtt) fs ∷ [];
+    appended = sealed_deeds time form.OneRtt n size fs a;
+    silent = one_silent ⊥ (did.Sealed «Data» n (epoch_in a.state.keys form.OneRtt) (is_early form.OneRtt) fs) refl refl refl;
+    gone = λ h. move_gone (Seal time form.OneRtt n size fs) (move_to (Take «Data» fs) a) (move_gone (Take «Data» fs) a h);
+    side = move_side (Seal time form.OneRtt n size fs) (move_to (Take «Data» fs) a) ∙ move_side (Take «Data» fs) a;
+  }
+
   ending_quiet : (m : Meaning t) (time : ℕ) (e : Ending) (b : Batch) (a : At t) → MayEnd m time e a.state b → Quiet ⊥ a (ending_after m time e b a)
-  ending_quiet m time e b a may = holds_ending (Quiet ⊥) (quiet_here ⊥) (quiet_next ⊥) (λ x r c h. quiet_move ⊥ x (sending_quiet x r) c) m time e b a may
+  ending_quiet m time e b a may = holds_ending (Quiet ⊥) (quiet_here ⊥) (quiet_next ⊥) (λ x r c h. quiet_move ⊥ x (sending_quiet x r) c) (λ at fs c h. data_quiet at _ _ fs c) m time e b a may
 
   -- the batch notes a Handshake packet
   packet_shakes : (m : Meaning t) (time : ℕ) (p : Sent) (g : Going t) → (packet_after m time p g).batch.shook ≡ (g.batch.shook || is_space (number_space p.form) Handshake)

@@ -9,7 +9,7 @@ use Rattle.qc_state.specs.declared.life.State.TheVariants.{Drained}
 use Rattle.qc_state.specs.Forms.{number_space}
 use Rattle.qc_state.specs.Headline.{is_datagram}
 use Rattle.qc_state.specs.Life.{is_open}
-use Rattle.qc_state.specs.Moves.{Move, MayMove, Arm, Ask, Begin, Clock, Finish, Fire, Forget, Give, Pace, Raise, Release, ReportConnected, ReportDrained, ReportLost, ReportReady, ReportNotice, ReportNotices, Say, Seal, Shut, Skip, Take, keys_move, life_move, move_to, numbers_move, state_move, Call, ReportStream, ReportStreams, Post, ReportHeard, ReportAllHeard, Issue, Outlive, Want, Hold, Spend}
+use Rattle.qc_state.specs.Moves.{Probe, Move, MayMove, Arm, Ask, Begin, Clock, Finish, Fire, Forget, Give, Pace, Raise, Release, ReportConnected, ReportDrained, ReportLost, ReportReady, ReportNotice, ReportNotices, Say, Seal, Shut, Skip, Take, keys_move, life_move, move_to, numbers_move, state_move, Call, ReportStream, ReportStreams, Post, ReportHeard, ReportAllHeard, Issue, Outlive, Want, Hold, Spend}
 use Rattle.qc_state.specs.Numbers.{next_number}
 use Rattle.qc_state.specs.Run.{IsAllowed, close_after, input_after, datagram_limit}
 use Rattle.qc_state.specs.Sending.{Choice, packet_size}
@@ -60,6 +60,7 @@ IsOwn (Give why) = Unit {0}
 IsOwn (Spend tokens) = Unit {0}
 IsOwn (Hold until) = Unit {0}
 IsOwn (Finish bytes control) = Unit {0}
+IsOwn (Probe time n bytes q) = Unit {0}
 IsOwn (Say q) = Unit {0}
 IsOwn (Call x) = Unit {0}
 IsOwn (Post x) = Unit {0}
@@ -78,6 +79,7 @@ timed_own (Give why) r = tt
 timed_own _ r = absurd r
 
 sending_own : {t : Types} (x : Move t) → IsSending x → IsOwn x
+sending_own (Ask id) r = tt
 sending_own (Forget id) r = tt
 sending_own (Arm at) r = tt
 sending_own (Begin id opens) r = tt
@@ -88,6 +90,7 @@ sending_own (Give why) r = tt
 sending_own (Spend tokens) r = tt
 sending_own (Hold until) r = tt
 sending_own (Finish bytes control) r = tt
+sending_own (Probe time n bytes q) r = tt
 sending_own (Say q) r = tt
 sending_own _ r = absurd r
 

@@ -18,6 +18,7 @@ pub mod Gifts
 pub mod HarmlessBytes
 pub mod HarmlessTests
 pub mod IdsFold
+pub mod LengthsHold
 pub mod IdsHold
 pub mod Inputs
 pub mod Joins
@@ -34,6 +35,7 @@ pub mod PostsTaken
 pub mod Receives
 pub mod SpacesApart
 pub mod Steps
+pub mod StepsTell
 pub mod Told
 pub mod ToldReceiving
 pub mod WholeDatagrams
@@ -53,6 +55,7 @@ pub mod ReadSteps
 pub mod StreamsSealed
 pub mod StreamsMade
 pub mod StreamsFold
+pub mod FramesAcked
 pub mod ReadEnds
 pub mod ReadsHold
 pub mod WriteEnds
@@ -68,3 +71,12 @@ pub mod TimerMoves
 pub mod TimerHolds
 pub mod TimerBegins
 pub mod WindowHolds
+pub mod PacketBytes
+pub mod FramesFit
+pub mod SealingKept
+pub mod BatchSizes
+pub mod PacketSeals
+pub mod ProbesSealed
+pub mod SealedDatagrams
+pub mod SealRuns
+pub mod FieldsKept

@@ -3,7 +3,7 @@ use Rattle.std.proofs.Common.{◌≡◌, ℕ, [], refl, ap, ◌∙◌, false}
 use Rattle.qc_state.specs.declared.input.Input.{Input}
 use Rattle.qc_state.specs.declared.trace.Step.{Step}
 use Rattle.qc_state.specs.Headline.{is_datagram}
-use Rattle.qc_state.specs.Moves.{Move, Arm, Ask, Begin, Finish, Fire, Forget, Give, Pace, Raise, Release, Say, Seal, Shut, Skip, Take, MayMove, deeds_move, move_to, Call, Post, Issue, Outlive, Want, Hold, Spend}
+use Rattle.qc_state.specs.Moves.{Probe, Move, Arm, Ask, Begin, Finish, Fire, Forget, Give, Pace, Raise, Release, Say, Seal, Shut, Skip, Take, MayMove, deeds_move, move_to, Call, Post, Issue, Outlive, Want, Hold, Spend}
 use Rattle.qc_laws.specs.PieceLaws.{given_in, pieces_in}
 use Rattle.qc_state.specs.Run.{IsStep, began, called, time_of}
 use Rattle.qc_state.specs.Types.{Types, Meaning}
@@ -33,6 +33,7 @@ module _ {t : Types} where
   own_quiet (Spend tokens) r a may = gives_move [] (Spend tokens) a refl refl
   own_quiet (Hold until) r a may = gives_move [] (Hold until) a refl refl
   own_quiet (Finish bytes control) r a may = gives_move [] (Finish bytes control) a refl refl
+  own_quiet (Probe time n bytes q) r a may = gives_move [] (Probe time n bytes q) a refl refl
   own_quiet (Say q) r a may = gives_move [] (Say q) a refl refl
   own_quiet (Call x) r a may = gives_move [] (Call x) a refl refl
   own_quiet (Post x) r a may = gives_move [] (Post x) a refl refl

@@ -3,19 +3,21 @@ use Rattle.std.proofs.Common.{◌≡◌, ℕ, ◌+◌, ◌*◌, ◌<◌, ◌≤�
 use Rattle.std.proofs.lemmas.Bool.Decides.{nat_tests}
 use Rattle.std.proofs.lemmas.List.{append_assoc, append-nil}
 use Rattle.std.proofs.lemmas.List.Folds.{list_any-append}
-use Rattle.std.specs.Prelude.{◌&&◌, ◌||◌, ◌-◌, ◌==◌, not, nat_le, is_none}
+use Rattle.std.specs.Prelude.{◌&&◌, ◌||◌, ◌-◌, ◌==◌, min, not, nat_le, is_none}
 use Rattle.qc_base.specs.Time.{plus}
 use Rattle.std.specs.List.{list_any}
 use Rattle.std.specs.declared.net.SocketAddr.{SocketAddr}
 use Rattle.qc_base.specs.declared.side.Side.{Side}
 use Rattle.qc_base.specs.declared.side.Side.TheVariants.{Client}
 use Rattle.qc_base.specs.declared.side.SpaceId.{SpaceId}
-use Rattle.qc_base.specs.declared.side.SpaceId.TheVariants.{Initial, Handshake}
+use Rattle.qc_base.specs.declared.side.SpaceId.TheVariants.{Initial, Handshake, «Data»}
 use Rattle.qc_frame.specs.Frame.{FrameValue}
 use Rattle.qc_header.specs.HeaderGrammar.{DatagramItem}
 use Rattle.qc_recovery.specs.Steps.{path_dropped}
 use Rattle.qc_recovery.specs.declared.path.PathData.{PathData}
+use Rattle.qc_path.specs.Mtu.{probe_sent}
 use Rattle.qc_state.specs.declared.form.Form.{Form}
+use Rattle.qc_state.specs.declared.form.Form.TheVariants as form
 use Rattle.qc_state.specs.declared.coming.Coming.{Coming}
 use Rattle.qc_state.specs.declared.deeds.Did.{Did}
 use Rattle.qc_state.specs.declared.deeds.Did.TheVariants as did
@@ -32,17 +34,16 @@ use Rattle.qc_state.specs.declared.life.State.TheVariants.{Drained}
 use Rattle.qc_state.specs.declared.paths.Path.{Path}
 use Rattle.qc_state.specs.declared.paths.Paths.{Paths}
 use Rattle.qc_state.specs.declared.trace.Step.{Step}
-use Rattle.qc_state.specs.declared.transmit.TheConstants.{DATAGRAM_SIZE}
 use Rattle.qc_state.specs.Forms.{number_space}
 use Rattle.qc_state.specs.Life.{is_open}
-use Rattle.qc_state.specs.Moves.{Accept, Ack, Arm, Come, Confirm, PeerClosesToo, Enter, Establish, Expect, Fail, Fire, Fix, Forget, Give, Hear, Learn, PeerCloses, MayMove, Move, Owe, Pace, Raise, Read, Ready, Release, Say, Seal, Shut, Take, Tell, Token, Want, Write, armed_after, armed_with, deeds_move, move_to, paths_move, state_move, told, Begin, Skip, Hand, told_to_streams, Insert, Switch, Retire, Outlive, Spend}
+use Rattle.qc_state.specs.Moves.{Accept, Ack, Arm, Come, Confirm, PeerClosesToo, Enter, Establish, Expect, Fail, Fire, Fix, Forget, Give, Hear, Learn, PeerCloses, MayMove, Move, Owe, Pace, Raise, Read, Ready, Release, Say, Seal, Shut, Take, Tell, Token, Want, Write, armed_after, armed_with, deeds_move, move_to, paths_move, state_move, told, Begin, Skip, Hand, told_to_streams, Insert, Switch, Retire, Outlive, Probe, Spend}
 use Rattle.qc_state.specs.Numbers.{next_number, received_number}
 use Rattle.qc_state.specs.Headline.{deeds_of}
 use Rattle.qc_laws.specs.PathLaws.{IsLimited, PathHolds, all_from, bytes_from, is_handshake_admitted}
-use Rattle.qc_state.specs.Paths.{is_blocked, is_blocked_behind, path_accepted, path_kept, path_quiet, path_received, path_sent, path_spun, peer_fixed, same_address, spun_by, path_named}
+use Rattle.qc_state.specs.Paths.{held_size, is_blocked, is_blocked_behind, most_on, path_accepted, path_capped, path_probed, path_kept, path_quiet, path_received, path_sent, path_spun, peer_fixed, same_address, spun_by, path_named}
 use Rattle.qc_state.specs.Receiving.{counted_after, cut_of, datagram_after, first_after, first_token, heard_after, is_readable, lets_in, pieces_after}
 use Rattle.qc_state.specs.Run.{IsAllowed, IsStep, Run, began, called, close_after, input_after, reported, step_after, time_of, called_all}
-use Rattle.qc_state.specs.Sending.{MayFollow, MayStand, MayTransmit, batch_grown, batch_opened, begun_after, begun_batch, drops_initial, initial_left, next_segment, packet_after, packet_size, spared_after, transmit_after, Choice, Sent, Ending, Went, Held, Hushed, Died, ending_after, packets_after, Going, going_from, MayAll, MayEnd, handshake_left, finished_after, gone_after, held_after, told_sent}
+use Rattle.qc_state.specs.Sending.{MayFollow, MayStand, MayTransmit, batch_grown, batch_opened, begun_after, begun_batch, drops_initial, initial_left, next_segment, packet_after, packet_size, spared_after, transmit_after, Choice, Sent, Ending, Went, Held, Hushed, Probed, Died, MayProbe, flown_after, is_flown, is_key_nearly_used_up, probe_begun_after, probe_frames, probe_sealed, probed_after, sealed_in, spent_after, ending_after, packets_after, Going, going_from, MayAll, MayEnd, handshake_left, finished_after, gone_after, held_after, told_sent}
 use Rattle.qc_state.specs.Spaces.{space_of}
 use Rattle.qc_state.specs.Stopping.{given_after, key_limit_error, killed_after, stopped_after}
 use Rattle.qc_state.specs.Setup.{is_first_awaited}
@@ -58,6 +59,7 @@ use Rattle.qc_state.specs.declared.transmit.Batch.{Batch}
 use Rattle.qc_state.proofs.Transmitted.{IsPacketMove, IsSealable, free_behind, holds_packets}
 use Rattle.qc_state.proofs.Batches.{opened_filled, opened_most, opened_total}
 use Rattle.qc_state.proofs.Begun.{begun_same}
+use Rattle.qc_state.proofs.Probing.{due_validated, probe_paths, sealed_validated}
 use Rattle.qc_laws.proofs.StreamCalls.{called_input}
 use Rattle.qc_state.proofs.Telling.{told_appends}
 use Rattle.qc_state.specs.Streams.{MayRead, calls_of}
@@ -69,15 +71,16 @@ KeepsPath came ds p p' = PathHolds came ds p.current p'.current
 -- nothing changes of the counts of a path, nor of its address, and an address that is validated stays so
 record Still {C : Type 0} (p p' : Paths C) : Type 0 where
   pub same : p'.current.remote ≡ p.current.remote
+  pub first : p'.current.first_mtu ≡ p.current.first_mtu
   pub received : p'.current.received ≡ p.current.received
   pub sent : p'.current.sent ≡ p.current.sent
   pub kept : p.current.validated ≡ true → p'.current.validated ≡ true
 
 still_here : {C : Type 0} → (p : Paths C) → Still p p
-still_here p = record { same = refl; received = refl; sent = refl; kept = λ h. h }
+still_here p = record { same = refl; first = refl; received = refl; sent = refl; kept = λ h. h }
 
 still_next : {C : Type 0} → (p q r : Paths C) → Still p q → Still q r → Still p r
-still_next p q r g h = record { same = h.same ∙ g.same; received = h.received ∙ g.received; sent = h.sent ∙ g.sent; kept = λ v. h.kept (g.kept v) }
+still_next p q r g h = record { same = h.same ∙ g.same; first = h.first ∙ g.first; received = h.received ∙ g.received; sent = h.sent ∙ g.sent; kept = λ v. h.kept (g.kept v) }
 
 -- by these deeds an address is validated only where it was before, or a Handshake packet was admitted
 abbrev Shown : {C : Type 0} → List Did → Paths C → Paths C → Type 0
@@ -110,10 +113,11 @@ was_not false b h e = refl
 still_holds : {C : Type 0} → (came : ℕ) (ds : List Did) (p p' : Paths C) → Still p p' → Shown ds p p' → KeepsPath came ds p p'
 still_holds came ds p p' h shown = record {
   same = h.same;
+  first = h.first;
   validated = shown;
   received = omega (arith, h.received);
   ranged = λ r. omega (arith, h.received);
-  limited = λ r l not_yet. let few : p.current.sent < 3 * p.current.received + DATAGRAM_SIZE = l (was_not p.current.validated p'.current.validated h.kept not_yet) in omega (arith, few, h.received, h.sent);
+  limited = λ r l not_yet. let few : p.current.sent < 3 * p.current.received + held_size p.current.first_mtu = l (was_not p.current.validated p'.current.validated h.kept not_yet) in omega (arith, few, h.received, h.sent, h.first);
 }
 
 -- a path that didn't change
@@ -123,6 +127,7 @@ unchanged came ds p = still_holds came ds p p (still_here p) (λ v. inl v)
 holds_next : {C : Type 0} → (m n : ℕ) (ds es : List Did) (p q r : Paths C) → KeepsPath m ds p q → KeepsPath n es q r → KeepsPath (m + n) (ds ++ es) p r
 holds_next m n ds es p q r g h = record {
   same = h.same ∙ g.same;
+  first = h.first ∙ g.first;
   validated = shown_next ds es p q r g.validated h.validated;
   received = omega (arith, g.received, h.received);
   ranged = λ k. h.ranged (g.ranged k);
@@ -132,7 +137,7 @@ holds_next m n ds es p q r g h = record {
 -- a packet was accepted
 accepted_still : {C : Type 0} → (p : Paths C) (id : SpaceId) (v : Verdict) → Still p (path_accepted p id v)
 unfolding path_accepted
-accepted_still p Handshake verdict.Admitted = record { same = refl; received = refl; sent = refl; kept = λ v. refl }
+accepted_still p Handshake verdict.Admitted = record { same = refl; first = refl; received = refl; sent = refl; kept = λ v. refl }
 accepted_still p _ _ = still_here p
 
 accepted_shown : {C : Type 0} → (p : Paths C) (id : SpaceId) (n : ℕ) (v : Verdict) → Shown (did.Piece (Some id) (Some n) v ∷ []) p (path_accepted p id v)
@@ -142,7 +147,7 @@ accepted_shown p _ n _ h = inl h
 
 -- the spin bit leaves the counts, the address and whether it is validated
 spun_by_greatest : {C : Type 0} → (p : Paths C) (side : Side) (bit b : Bool) → Still p (if b then record p { spin = spun_by side bit } else p)
-spun_by_greatest p side bit true = record { same = refl; received = refl; sent = refl; kept = λ v. v }
+spun_by_greatest p side bit true = record { same = refl; first = refl; received = refl; sent = refl; kept = λ v. v }
 spun_by_greatest p side bit false = still_here p
 
 spun_still : {C : Type 0} → (p : Paths C) (side : Side) (greatest bit : Bool) → Still p (path_spun p side greatest bit)
@@ -171,17 +176,18 @@ spun_after p id n v side greatest bit =
 -- what recovery keeps of the path is nothing of that
 kept_still : {C : Type 0} → (p : Paths C) (kept : PathData C) → Still p (path_kept p kept)
 unfolding path_kept
-kept_still p kept = record { same = refl; received = refl; sent = refl; kept = λ v. v }
+kept_still p kept = record { same = refl; first = refl; received = refl; sent = refl; kept = λ v. v }
 
 -- so many bytes were heard from the path's address
 heard_path : {C : Type 0} → (came : ℕ) (ds : List Did) (p q : Paths C) → Still p q → Shown ds p q → KeepsPath came ds p (path_received q came)
 unfolding path_received
 heard_path came ds p q h shown = record {
   same = h.same;
+  first = h.first;
   validated = shown;
   received = omega (arith, h.received);
   ranged = λ r. omega arith;
-  limited = λ r l not_yet. let few : p.current.sent < 3 * p.current.received + DATAGRAM_SIZE = l (was_not p.current.validated q.current.validated h.kept not_yet) in omega (arith, few, h.received, h.sent, r);
+  limited = λ r l not_yet. let few : p.current.sent < 3 * p.current.received + held_size p.current.first_mtu = l (was_not p.current.validated q.current.validated h.kept not_yet) in omega (arith, few, h.received, h.sent, h.first, r);
 }
 
 -- a transmit sent nothing
@@ -199,17 +205,18 @@ came_length remote from bytes h = ap (λ (b : Bool). if b then length bytes else
 
 -- so many bytes more stay within the limit, where the path was within it
 abbrev HasRoom : {C : Type 0} → Paths C → (bytes : ℕ) → Type 0
-HasRoom p bytes = IsLimited p.current → p.current.validated ≡ false → p.current.sent + bytes < 3 * p.current.received + DATAGRAM_SIZE
+HasRoom p bytes = IsLimited p.current → p.current.validated ≡ false → p.current.sent + bytes < 3 * p.current.received + held_size p.current.first_mtu
 
 -- then they may be sent there
 sent_path : {C : Type 0} → (came : ℕ) (ds : List Did) (p : Paths C) (size : ℕ) → HasRoom p size → KeepsPath came ds p (path_sent p size)
 unfolding path_sent
 sent_path came ds p size room = record {
   same = refl;
+  first = refl;
   validated = λ v. inl v;
   received = omega arith;
   ranged = λ r. r;
-  limited = λ r l not_yet. let few : p.current.sent + size < 3 * p.current.received + DATAGRAM_SIZE = room l not_yet in omega (arith, few);
+  limited = λ r l not_yet. let few : p.current.sent + size < 3 * p.current.received + held_size p.current.first_mtu = room l not_yet in omega (arith, few);
 }
 
 -- and the controller is told
@@ -217,14 +224,24 @@ told_path : {C : Type 0} → (ds : List Did) (p : Paths C) (control : C) (size :
 unfolding path_kept
 told_path {C} ds p control size room =
     let q : Paths C = path_kept p (record p.current.kept { congestion = control }) in
-    holds_next 0 0 [] ds p q (path_sent q size) (still_holds 0 [] p q (record { same = refl; received = refl; sent = refl; kept = λ v. v }) (λ v. inl v)) (sent_path 0 ds q size room)
+    holds_next 0 0 [] ds p q (path_sent q size) (still_holds 0 [] p q (record { same = refl; first = refl; received = refl; sent = refl; kept = λ v. v }) (λ v. inl v)) (sent_path 0 ds q size room)
+
+-- a datagram to an address that isn't validated has no more bytes than its path began with
+most_by : (v : Bool) (first found : ℕ) → v ≡ false → held_size (if v then found else min first found) ≤ held_size first
+most_by true first found e = cc
+most_by false first found e = omega arith
+
+first_most : {C : Type 0} → (p : Path C) → p.validated ≡ false → most_on p ≤ held_size p.first_mtu
+unfolding most_on
+first_most p not_yet = most_by p.validated p.first_mtu p.kept.mtud.current not_yet
 
 -- ---- the datagrams of a transmit
 
--- none has more bytes than a datagram of the path may; and what all have, with what is left in the open one, stays within the limit
+-- to an address that isn't validated none has more bytes than its path began with; and what all have, with what is left in the open one, stays
+-- within the limit
 record IsWithin {C : Type 0} (p : Paths C) (b : Batch) : Type 0 where
-  pub segment : b.segment ≤ DATAGRAM_SIZE
-  pub capacity : b.capacity ≤ DATAGRAM_SIZE
+  pub segment : p.current.validated ≡ false → b.segment ≤ held_size p.current.first_mtu
+  pub capacity : p.current.validated ≡ false → b.capacity ≤ held_size p.current.first_mtu
   pub filled : b.filled ≤ b.capacity
   pub room : HasRoom p (b.total + (b.capacity - b.filled))
 
@@ -233,7 +250,7 @@ at_most a b c h k = omega (arith, h, k)
 
 -- there are none yet
 begun_room : {C : Type 0} → (p : Paths C) → HasRoom p 0
-begun_room p = λ l not_yet. let few : p.current.sent < 3 * p.current.received + DATAGRAM_SIZE = l not_yet in omega (arith, few)
+begun_room p = λ l not_yet. let few : p.current.sent < 3 * p.current.received + held_size p.current.first_mtu = l not_yet in omega (arith, few)
 
 -- what the next one may have
 next_small : (most : ℕ) (one : Bool) (filled segment : ℕ) → filled ≤ most → segment ≤ most → (if one then filled else segment) ≤ most
@@ -258,13 +275,14 @@ opened_within : {C : Type 0} → (p : Paths C) (probes : Bool) (b : Batch) → i
 unfolding is_blocked_behind
 opened_within {C} p probes b free h =
     let opened : Batch = batch_opened true probes b in
-    let next : next_segment b ≤ DATAGRAM_SIZE = next_small DATAGRAM_SIZE (b.made == 1) b.filled b.segment (at_most b.filled b.capacity DATAGRAM_SIZE h.filled h.capacity) h.segment in
-    let small : opened.capacity ≤ DATAGRAM_SIZE = at_most opened.capacity (next_segment b) DATAGRAM_SIZE (opened_most b probes) next in
+    let most : ℕ = held_size p.current.first_mtu in
+    let next : p.current.validated ≡ false → next_segment b ≤ most = λ not_yet. next_small most (b.made == 1) b.filled b.segment (at_most b.filled b.capacity most h.filled (h.capacity not_yet)) (h.segment not_yet) in
+    let small : p.current.validated ≡ false → opened.capacity ≤ most = λ not_yet. at_most opened.capacity (next_segment b) most (opened_most b probes) (next not_yet) in
     record {
-      segment = subst (λ (n : ℕ). n ≤ DATAGRAM_SIZE) (sym (opened_segment b probes)) next;
+      segment = λ not_yet. subst (λ (n : ℕ). n ≤ most) (sym (opened_segment b probes)) (next not_yet);
       capacity = small;
       filled = subst (λ (n : ℕ). n ≤ opened.capacity) (sym (opened_filled b probes)) (omega arith);
-      room = λ l not_yet. opens_room DATAGRAM_SIZE p.current.sent b.total opened.total opened.capacity opened.filled p.current.received small (opened_total b true probes)
+      room = λ l not_yet. opens_room most p.current.sent b.total opened.total opened.capacity opened.filled p.current.received (small not_yet) (opened_total b true probes)
           (unblocked p.current.validated (nat_le (3 * p.current.received) (b.total + p.current.sent)) (3 * p.current.received) (b.total + p.current.sent) not_yet free refl);
     }
 
@@ -288,12 +306,19 @@ grown_within p form number size padding fills nearly b few fits h = record {
   segment = h.segment;
   capacity = h.capacity;
   filled = grows_filled b.filled size b.capacity fits;
-  room = λ l not_yet. grows_room DATAGRAM_SIZE p.current.sent b.total b.filled size b.capacity p.current.received few fits (h.room l not_yet);
+  room = λ l not_yet. grows_room (held_size p.current.first_mtu) p.current.sent b.total b.filled size b.capacity p.current.received few fits (h.room l not_yet);
 }
 
 -- what all have stays within the limit
 total_room : {C : Type 0} → (p : Paths C) (b : Batch) → IsWithin p b → HasRoom p b.total
-total_room p b h = λ l not_yet. let few : p.current.sent + (b.total + (b.capacity - b.filled)) < 3 * p.current.received + DATAGRAM_SIZE = h.room l not_yet in omega (arith, few)
+total_room p b h = λ l not_yet. let few : p.current.sent + (b.total + (b.capacity - b.filled)) < 3 * p.current.received + held_size p.current.first_mtu = h.room l not_yet in omega (arith, few)
+
+-- a probe of the path's size goes to a validated address
+probed_path : {C : Type 0} → (ds : List Did) (p : Paths C) (time n bytes : ℕ) (q : Quiet) → p.current.validated ≡ true → KeepsPath 0 ds p (path_probed p time n bytes q)
+unfolding path_probed
+probed_path ds p time n bytes q validated =
+    subst (λ (x : Path _). PathHolds 0 ds p.current x) (sym (quiet_current (record p { current = record p.current { sent = plus p.current.sent bytes; kept = record p.current.kept { mtud = probe_sent time n p.current.kept.mtud } } }) q))
+    (record { same = refl; first = refl; validated = λ v. inl v; received = omega arith; ranged = λ r. r; limited = λ r l not_yet. absurd (cc (not_yet, validated)) })
 
 module _ {t : Types} where
   -- from one moment to another, where the path stays as it was: the deeds between, by which it may have been validated
@@ -335,7 +360,7 @@ module _ {t : Types} where
 
   -- the moves of a packet that came
   still_move : (x : Move t) → IsOfPiece x → (a : At t) → MayMove x a.state → StillAt a (move_to x a)
-  unfolding paths_move deeds_move path_kept path_named peer_fixed
+  unfolding paths_move deeds_move path_kept path_capped path_named peer_fixed
   still_move (Forget id) r a h = silent_at (Forget id) a refl (kept_still a.state.paths (path_dropped id a.state.paths.current.kept)) (λ v. inl v)
   still_move (Enter id n v) r a h = deed_at (Enter id n v) _ a refl (still_here a.state.paths) (λ v. inl v)
   still_move Fail r a h = silent_at Fail a refl (still_here a.state.paths) (λ v. inl v)
@@ -343,7 +368,7 @@ module _ {t : Types} where
       let greatest : Bool = nat_le (received_number a.state.numbers id) n in
       let side : Side = a.state.setup.fixed.side in
       deed_at (Accept time id n e g v) (did.Piece (Some id) (Some n) v) a refl (accepted_spun a.state.paths id v side greatest g.spin) (spun_after a.state.paths id n v side greatest g.spin)
-  still_move (Fix cid) r a h = silent_at (Fix cid) a refl (record { same = refl; received = refl; sent = refl; kept = λ v. v }) (λ v. inl v)
+  still_move (Fix cid) r a h = silent_at (Fix cid) a refl (record { same = refl; first = refl; received = refl; sent = refl; kept = λ v. v }) (λ v. inl v)
   still_move (Ack id n after) r a h = silent_at (Ack id n after) a refl (kept_still a.state.paths after.path) (λ v. inl v)
   still_move (Arm at) r a h = silent_at (Arm at) a refl (still_here a.state.paths) (λ v. inl v)
   still_move (Come id offset bytes) r a h = silent_at (Come id offset bytes) a refl (still_here a.state.paths) (λ v. inl v)
@@ -352,7 +377,7 @@ module _ {t : Types} where
   still_move Ready r a h = silent_at Ready a refl (still_here a.state.paths) (λ v. inl v)
   still_move (Token token) r a h = silent_at (Token token) a refl (still_here a.state.paths) (λ v. inl v)
   still_move (Want time count) r a h = silent_at (Want time count) a refl (still_here a.state.paths) (λ v. inl v)
-  still_move (Learn parameters) r a h = silent_at (Learn parameters) a refl (record { same = refl; received = refl; sent = refl; kept = λ v. v }) (λ v. inl v)
+  still_move (Learn parameters) r a h = silent_at (Learn parameters) a refl (record { same = refl; first = refl; received = refl; sent = refl; kept = λ v. v }) (λ v. inl v)
   still_move Confirm r a h = silent_at Confirm a refl (still_here a.state.paths) (λ v. inl v)
   still_move Establish r a h = deed_at Establish _ a refl (still_here a.state.paths) (λ v. inl v)
   still_move (Tell d) r a h = deed_at (Tell d) d a refl (still_here a.state.paths) (λ v. inl v)
@@ -363,8 +388,8 @@ module _ {t : Types} where
   still_move (Raise to) r a h = deed_at (Raise to) _ a refl (still_here a.state.paths) (λ v. inl v)
   still_move (Give why) r a h = deed_at (Give why) _ a refl (still_here a.state.paths) (λ v. inl v)
   still_move (Hand frame) r a h = handed_at frame a
-  still_move (Insert new) r a h = deed_at (Insert new) _ a refl (record { same = refl; received = refl; sent = refl; kept = λ v. v }) (λ v. inl v)
-  still_move Switch r a h = silent_at Switch a refl (record { same = refl; received = refl; sent = refl; kept = λ v. v }) (λ v. inl v)
+  still_move (Insert new) r a h = deed_at (Insert new) _ a refl (record { same = refl; first = refl; received = refl; sent = refl; kept = λ v. v }) (λ v. inl v)
+  still_move Switch r a h = silent_at Switch a refl (record { same = refl; first = refl; received = refl; sent = refl; kept = λ v. v }) (λ v. inl v)
   still_move (Retire time n) r a h = deed_at (Retire time n) _ a refl (still_here a.state.paths) (λ v. inl v)
   still_move _ r a h = absurd r
 
@@ -495,14 +520,15 @@ module _ {t : Types} where
   rests_room : (a b : At t) (bytes : ℕ) → Rests a b → HasRoom a.state.paths bytes → HasRoom b.state.paths bytes
   rests_room a b bytes rests room = λ l not_yet.
       let before : a.state.paths.current.validated ≡ false = sym rests.1 ∙ not_yet in
-      let low : b.state.paths.current.sent < 3 * b.state.paths.current.received + DATAGRAM_SIZE = l not_yet in
+      let low : b.state.paths.current.sent < 3 * b.state.paths.current.received + held_size b.state.paths.current.first_mtu = l not_yet in
       let same : b.state.paths.current.sent ≡ a.state.paths.current.sent = rests.0.sent in
       let heard : b.state.paths.current.received ≡ a.state.paths.current.received = rests.0.received in
-      let few : a.state.paths.current.sent + bytes < 3 * a.state.paths.current.received + DATAGRAM_SIZE = room (λ v. omega (arith, low, same, heard)) before in
-      omega (arith, few, same, heard)
+      let first : b.state.paths.current.first_mtu ≡ a.state.paths.current.first_mtu = rests.0.first in
+      let few : a.state.paths.current.sent + bytes < 3 * a.state.paths.current.received + held_size a.state.paths.current.first_mtu = room (λ v. omega (arith, low, same, heard, first)) before in
+      omega (arith, few, same, heard, first)
 
   rests_within : (a b : At t) (c : Batch) → Rests a b → IsWithin a.state.paths c → IsWithin b.state.paths c
-  rests_within a b c rests h = record { segment = h.segment; capacity = h.capacity; filled = h.filled; room = rests_room a b (c.total + (c.capacity - c.filled)) rests h.room }
+  rests_within a b c rests h = record { segment = λ not_yet. omega (arith, h.segment (sym rests.1 ∙ not_yet), rests.0.first); capacity = λ not_yet. omega (arith, h.capacity (sym rests.1 ∙ not_yet), rests.0.first); filled = h.filled; room = rests_room a b (c.total + (c.capacity - c.filled)) rests h.room }
 
   -- so it is with packets: their bytes count as the transmit ends
   packet_move : (x : Move t) → IsPacketMove x → (a : At t) → MayMove x a.state → Rests a (move_to x a)
@@ -520,6 +546,16 @@ module _ {t : Types} where
 
   path_packets : (m : Meaning t) (time : ℕ) (ps : List Sent) (g : Going t) → MayAll m time g ps → Rests g.now (packets_after m time ps g).now
   path_packets m time ps g may = holds_packets Rests rests_here rests_next packet_move packet_sealed m time ps g may
+
+  -- a packet that is taken, sealed and counted leaves the address and the counts
+  flown_still : (m : Meaning t) (time size : ℕ) (b : Bool) (a : At t) → Still a.state.paths (flown_after m time size b a).state.paths
+  unfolding armed_with spent_after move_to state_move paths_move
+  flown_still m time size true a = kept_still a.state.paths _
+  flown_still m time size false a = still_here a.state.paths
+
+  sealed_still : (m : Meaning t) (time : ℕ) (form : Form) (fs : List FrameValue) (a : At t) → Still a.state.paths (sealed_in m time form fs a).state.paths
+  unfolding sealed_in move_to state_move paths_move
+  sealed_still m time form fs a = flown_still m time _ (is_flown a.state fs) _
 
   -- a packet that begins a datagram does so where the path isn't blocked
   place_free : (m : Meaning t) (time : ℕ) (s : View t) (b : Batch) (id : SpaceId) (opens : Bool) → MayStand m time s b id opens → opens ≡ true → is_blocked_behind s.paths b.total ≡ false
@@ -545,7 +581,7 @@ module _ {t : Types} where
       within m time ps k (rests_within g.now k.now k.batch (path_packets m time (p ∷ []) g (may.0, tt)) (packet_within m time p g may.0 h)) may.1
 
   begun_all_within : (asked : ℕ) (a : At t) → IsWithin a.state.paths (going_from asked a).batch
-  begun_all_within asked a = record { segment = omega arith; capacity = omega arith; filled = omega arith; room = begun_room a.state.paths }
+  begun_all_within asked a = record { segment = λ not_yet. first_most a.state.paths.current not_yet; capacity = λ not_yet. omega arith; filled = omega arith; room = begun_room a.state.paths }
 
   -- what a transmit does once
   path_finished : (m : Meaning t) (time : ℕ) (b : Batch) (ds : List Did) (a : At t) → HasRoom a.state.paths b.total → KeepsPath 0 ds a.state.paths (finished_after m time b a).state.paths
@@ -557,6 +593,22 @@ module _ {t : Types} where
       subst (λ (p : Paths t.C). KeepsPath 0 ds p (finished_after m time b a).state.paths) same
       (told_path ds d.state.paths (m.control.after_sent d.state.paths.current.kept.congestion time b.total b.last) b.total (subst (λ (p : Paths t.C). HasRoom p b.total) (sym same) room))
 
+  path_probe : (m : Meaning t) (time size : ℕ) (quiet : Quiet) (b : Batch) (ds : List Did) (a : At t) → MayProbe m time a.state b quiet size → KeepsPath 0 ds a.state.paths (probed_after m time size quiet b a).state.paths
+  unfolding probed_after probe_sealed move_to state_move paths_move
+  path_probe m time size quiet b ds a may =
+      let c : At t = probe_begun_after m time quiet b a in
+      let fs : List FrameValue = probe_frames c.state size in
+      let d : At t = sealed_in m time form.OneRtt fs c in
+      let e : At t = move_to (Probe time (next_number c.state.numbers «Data») size quiet) d in
+      let begun : c.state.paths ≡ a.state.paths = probe_paths m time quiet b a in
+      let validated : d.state.paths.current.validated ≡ true =
+      sealed_validated m time form.OneRtt fs c ∙ ap (λ (p : Paths t.C). p.current.validated) begun ∙ due_validated time size a.state may.due in
+      let rests : Still c.state.paths d.state.paths = sealed_still m time form.OneRtt fs c in
+      let first : KeepsPath 0 [] a.state.paths d.state.paths =
+      subst (λ (p : Paths t.C). KeepsPath 0 [] p d.state.paths) begun (still_holds 0 [] c.state.paths d.state.paths rests (λ v. inl (sym (sealed_validated m time form.OneRtt fs c) ∙ v))) in
+      subst (λ (p : Paths t.C). KeepsPath 0 ds a.state.paths p) (sym (path_spared time (is_key_nearly_used_up c.state form.OneRtt) e))
+      (holds_next 0 0 [] ds a.state.paths d.state.paths (path_probed d.state.paths time (next_number c.state.numbers «Data») size quiet) first (probed_path ds d.state.paths time (next_number c.state.numbers «Data») size quiet validated))
+
   path_ending : (m : Meaning t) (time : ℕ) (e : Ending) (b : Batch) (ds : List Did) (a : At t) → IsWithin a.state.paths b → MayEnd m time e a.state b → KeepsPath 0 ds a.state.paths (ending_after m time e b a).state.paths
   unfolding ending_after
   path_ending m time Went b ds a h may = path_finished m time b ds a (total_room a.state.paths b h)
@@ -566,6 +618,7 @@ module _ {t : Types} where
       subst (λ (p : Paths t.C). KeepsPath 0 ds p (finished_after m time b c).state.paths) same
       (path_finished m time b ds c (subst (λ (p : Paths t.C). HasRoom p b.total) (sym same) (total_room a.state.paths b h)))
   path_ending m time (Hushed quiet) b ds a h may = subst (λ (p : Paths t.C). KeepsPath 0 ds a.state.paths p) (sym (path_hushed m time quiet b a)) (quiet_path 0 ds a.state.paths quiet)
+  path_ending m time (Probed quiet size) b ds a h may = path_probe m time size quiet b ds a may.0
   path_ending m time (Died why) b ds a h may = subst (λ (p : Paths t.C). KeepsPath 0 ds a.state.paths p) (sym (path_killed why a)) (quiet_path 0 ds a.state.paths Killed)
 
   path_transmit : (m : Meaning t) (time asked : ℕ) (choice : Choice) (ds : List Did) (a : At t) → MayTransmit m time asked choice a → KeepsPath 0 ds a.state.paths (transmit_after m time asked choice a).state.paths

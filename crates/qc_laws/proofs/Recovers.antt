@@ -6,10 +6,11 @@ use Rattle.std.proofs.lemmas.List.Sorted.{IsPermutation-refl}
 use Rattle.qc_base.specs.declared.side.Side.{Side}
 use Rattle.qc_base.specs.declared.side.SpaceId.{SpaceId}
 use Rattle.qc_base.specs.declared.side.SpaceId.TheVariants.{Handshake}
-use Rattle.qc_flight.specs.Packets.{Entry}
+use Rattle.qc_flight.specs.Packets.{Entry, has_number}
 use Rattle.qc_frame.specs.Frame.{FrameValue}
 use Rattle.qc_path.specs.Pacing.{Bucket}
 use Rattle.qc_path.specs.declared.controller.Controller.{Ghosts as Control}
+use Rattle.qc_recovery.specs.Frames.{ranges_up_of, values_of}
 use Rattle.qc_recovery.specs.Losses.{rank}
 use Rattle.qc_recovery.specs.Runs.{AreSettledOnce, Acknowledge, Discard, Fates, Send, call_after, fates_after, fired_lost, in_space}
 use Rattle.qc_recovery.specs.Runs as runs
@@ -17,6 +18,7 @@ use Rattle.qc_recovery.specs.Steps.{After, FiredAfter}
 use Rattle.qc_recovery.specs.Steps as recovery
 use Rattle.qc_recovery.specs.declared.path.PathData.{PathData}
 use Rattle.qc_recovery.specs.declared.recovery.Recovery.{Recovery}
+use Rattle.qc_recovery.proofs.Named.{acked_acknowledged}
 use Rattle.qc_recovery.proofs.RunsSettle.{calls_settle}
 use Rattle.qc_state.specs.declared.form.Form.{Form}
 use Rattle.qc_state.specs.declared.deeds.Did.{Did}
@@ -37,11 +39,11 @@ use Rattle.qc_state.specs.Forms.{number_space, is_early}
 use Rattle.qc_state.specs.Headline.{deeds_of}
 use Rattle.qc_state.specs.Life.{is_open, rank_of}
 use Rattle.qc_state.specs.Lower.{bytes_came, flight_dropped, packet_flown, packets_settled, session_read, session_wrote, timer_fired, limits_learned, frame_handed, streams_closed, streams_stepped, events_told, datagrams_stepped, frames_sealed, ids_stepped}
-use Rattle.qc_state.specs.Moves.{Accept, Ack, Arm, Ask, Begin, Clock, Come, Confirm, PeerClosesToo, Enter, Establish, Expect, Fail, Finish, Fire, Fix, Forget, Give, Hear, IsTold, Learn, PeerCloses, MayMove, Move, Owe, Pace, Raise, Read, Ready, Release, Say, Seal, Shut, Skip, Take, Tell, Token, Want, Write, deeds_move, is_close, lower_move, move_to, paths_move, state_move, waiting_move, Call, Hand, Post, Insert, Switch, Retire, Issue, Outlive, Hold, Spend}
-use Rattle.qc_state.specs.Numbers.{next_number, received_number}
-use Rattle.qc_state.specs.Paths.{path_accepted, path_kept, path_received, path_sent, path_spun, peer_fixed, spun_by, path_named}
-use Rattle.qc_state.specs.Recovering.{fired_by, settled_by}
-use Rattle.qc_laws.specs.RecoveryLaws.{AllMay, AreFlown, Dropped, EachSettlesOnce, Fired, Kept, MayStep, RecoveryStep, Recovers, Sent, Settled, Spent, Told, kept, sent_in, step_after, steps_after, steps_of}
+use Rattle.qc_state.specs.Moves.{Accept, Ack, Arm, Ask, Begin, Clock, Come, Confirm, PeerClosesToo, Enter, Establish, Expect, Fail, Finish, Fire, Fix, Forget, Give, Hear, IsTold, Learn, PeerCloses, MayMove, Move, Owe, Pace, Raise, Read, Ready, Release, Say, Seal, Shut, Skip, Take, Tell, Token, Want, Write, deeds_move, is_close, lower_move, move_to, paths_move, state_move, waiting_move, Call, Hand, Post, Insert, Switch, Retire, Issue, Outlive, Hold, Spend, Probe}
+use Rattle.qc_state.specs.Numbers.{began_at, next_number, received_number}
+use Rattle.qc_state.specs.Paths.{is_blocked, path_accepted, path_kept, path_received, path_sent, path_spun, peer_fixed, spun_by, path_named, path_capped}
+use Rattle.qc_state.specs.Recovering.{around_of, fired_by, settled_by, shows_validated}
+use Rattle.qc_laws.specs.RecoveryLaws.{AllMay, AreFlown, Dropped, EachSettlesOnce, Fired, Kept, MayStep, RecoveryStep, Recovers, Sent, Settled, Spent, Told, kept, sent_in, step_after, steps_after, steps_of, Capped, Probed}
 use Rattle.qc_state.specs.Run.{IsStep, Run, began, called, input_after, reported, time_of}
 use Rattle.qc_state.specs.Run as run
 use Rattle.qc_state.specs.Sending.{packet_size, rate_of}
@@ -51,7 +53,7 @@ use Rattle.qc_state.specs.Waiting.{waiting_without}
 use Rattle.qc_laws.proofs.EndsHold.{began_ends, ends_seal, known_keeps, step_ends}
 use Rattle.qc_laws.proofs.KnownMoves.{IsFiredBy, IsKnownMove, IsSettledBy, IsSpentBy, IsToldBy, known_input}
 use Rattle.qc_state.proofs.Probed.{begun_streams}
-use Rattle.qc_state.proofs.Quieted.{quiet_current}
+use Rattle.qc_state.proofs.Quieted.{probed_current, quiet_current}
 use Rattle.qc_state.proofs.Telling.{told_appends}
 use Rattle.qc_state.proofs.Transmitted.{IsSealable}
 use Rattle.qc_laws.proofs.StreamCalls.{handed_told}
@@ -84,6 +86,8 @@ module _ {C : Type 0} where
   sent_append id (Dropped space ∷ xs) ys = sent_append id xs ys
   sent_append id (Spent tokens ∷ xs) ys = sent_append id xs ys
   sent_append id (Told control ∷ xs) ys = sent_append id xs ys
+  sent_append id (Capped size ∷ xs) ys = sent_append id xs ys
+  sent_append id (Probed time n ∷ xs) ys = sent_append id xs ys
 
 -- the packets in flight of deeds that come one after the other
 pub flown_append : (id : SpaceId) (ds es : List Did) (xs ys : List Entry) → AreFlown id ds xs → AreFlown id es ys → AreFlown id (ds ++ es) (xs ++ ys)
@@ -158,7 +162,17 @@ module _ {t : Types} where
   -- what an ACK and the timer leave is what recovery makes of them
   settled_may : (m : Meaning t) (id : SpaceId) (after : After t.C) (s : View t) → IsSettledBy m id after s → MayStep m.control (Settled id after) (kept s)
   unfolding settled_by
-  settled_may m id after s h = record { now = h.time; next = _; began = _; ack = _; ranges = _; around = _; is = h.is }
+  settled_may m id after s h = record {
+    now = h.time;
+    next = next_number s.numbers id;
+    began = began_at s.numbers id;
+    ack = h.ack;
+    around = around_of s (is_blocked s.paths) (shows_validated id);
+    is = h.is;
+    named = λ n among.
+        acked_acknowledged m.control h.time id (next_number s.numbers id) (began_at s.numbers id) h.ack (around_of s (is_blocked s.paths) (shows_validated id)) s.lower.recovery s.paths.current.kept n
+        (subst (λ (a : After t.C). has_number n a.acked ≡ true) h.is among);
+  }
 
   fired_may : (m : Meaning t) (after : FiredAfter t.C) (s : View t) → IsFiredBy m after s → MayStep m.control (Fired after) (kept s)
   unfolding fired_by
@@ -186,12 +200,12 @@ module _ {t : Types} where
   unfolding step_after packet_flown flown_packet
   seal_folds m time n size id epoch early fs s true closes = (tt, refl, λ space. ([], [], ap (λ (es : List Entry). es ++ []) (sym (none_in space id)), inr (refl, closes refl), refl))
   seal_folds m time n size id epoch early fs s false closes =
-      ((tt, tt), refl, λ space. ((n, flown_packet time size fs) ∷ [], [], refl, inl (flown_packet time size fs, refl, record { frames = refl; counted = refl; eliciting = refl }), refl))
+      ((tt, tt), refl, λ space. ((n, flown_packet time size fs) ∷ [], [], refl, inl (flown_packet time size fs, refl, record { frames = refl; streams = refl; counted = refl; eliciting = refl }), refl))
 
   -- each move beside those with which a packet is taken and sealed
   pub move_parts : (m : Meaning t) (x : Move t) (s : View t) → IsKnownMove m x s → MayMove x s →
       AllMay m.control (steps_of x s) (kept s) × (kept (state_move x s) ≡ steps_after (steps_of x s) (kept s)) × ((id : SpaceId) → AreFlown id (deeds_move x s) (sent_in id (steps_of x s)))
-  unfolding steps_of step_after state_move lower_move paths_move deeds_move flight_dropped packets_settled timer_fired bytes_came session_read session_wrote limits_learned frame_handed streams_closed streams_stepped datagrams_stepped path_kept path_named path_received path_sent peer_fixed MayMove frames_sealed ids_stepped
+  unfolding steps_of step_after state_move lower_move paths_move deeds_move flight_dropped packets_settled timer_fired bytes_came session_read session_wrote limits_learned frame_handed streams_closed streams_stepped datagrams_stepped path_kept path_named path_received path_sent peer_fixed MayMove frames_sealed ids_stepped path_capped
   move_parts m (Clock time) s k may = absurd k
   move_parts m (Ask id) s k may = (tt, refl, (λ id. refl))
   move_parts m (Take id fs) s k may = absurd k
@@ -216,7 +230,7 @@ module _ {t : Types} where
   move_parts m (Write bytes keys session) s k may = (tt, refl, (λ id. refl))
   move_parts m Ready s k may = (tt, refl, (λ id. refl))
   move_parts m (Token token) s k may = (tt, refl, (λ id. refl))
-  move_parts m (Learn parameters) s k may = (tt, refl, (λ id. refl))
+  move_parts m (Learn parameters) s k may = ((tt, tt), refl, (λ id. refl))
   move_parts m (Want time count) s k may = (tt, refl, (λ id. refl))
   move_parts m Confirm s k may = (tt, refl, (λ id. refl))
   move_parts m Establish s k may = (tt, refl, (λ id. refl))
@@ -230,6 +244,7 @@ module _ {t : Types} where
   move_parts m (Spend tokens) s k may = ((spent_may m tokens s k, tt), refl, (λ id. refl))
   move_parts m (Hold until) s k may = (tt, refl, (λ id. refl))
   move_parts m (Finish bytes control) s k may = ((told_may m control s k, tt), refl, (λ id. refl))
+  move_parts m (Probe time n bytes q) s k may = ((tt, tt), ap (λ (p : Path t.C). record { recovery = s.lower.recovery; path = p.kept }) (probed_current s.paths time n bytes q), (λ id. refl))
   move_parts m (Say quiet) s k may = (tt, ap (λ (p : Path t.C). record { recovery = s.lower.recovery; path = p.kept }) (quiet_current s.paths quiet), (λ id. refl))
   move_parts m (Hand frame) s k may = (tt, refl, (λ id. handed_told (λ ds. AreFlown id ds []) frame refl (λ body. refl)))
   move_parts m (Call x) s k may = (tt, refl, (λ id. refl))
@@ -308,6 +323,8 @@ module _ {C : Type 0} where
   step_fates id (Dropped space) k f = record f { dropped = f.dropped ++ in_space id space (recovery.space_of space k.recovery).flight }
   step_fates id (Spent tokens) k f = f
   step_fates id (Told control) k f = f
+  step_fates id (Capped size) k f = f
+  step_fates id (Probed time n) k f = f
 
   abbrev steps_fates : SpaceId → List (RecoveryStep C) → Kept C → Fates → Fates
   steps_fates id [] k f = f
@@ -319,13 +336,15 @@ module _ {C : Type 0} where
   step_settles m id (Sent space number packet) k f may h = calls_settle m id (Send space number packet ∷ []) k.recovery f h
   step_settles m id (Settled space after) k f may h =
       subst (λ (a : After C). AreSettledOnce id a.recovery (record f { acked = f.acked ++ in_space id space a.acked; lost = f.lost ++ in_space id space a.lost })) (sym may.is)
-      (calls_settle m id (Acknowledge may.now space may.next may.began may.ack may.ranges may.around k.path ∷ []) k.recovery f h)
+      (calls_settle m id (Acknowledge may.now space may.next may.began (values_of may.ack) (ranges_up_of may.ack) may.around k.path ∷ []) k.recovery f h)
   step_settles m id (Fired after) k f may h =
       subst (λ (a : FiredAfter C). AreSettledOnce id a.recovery (record f { lost = f.lost ++ fired_lost id a.fired })) (sym may.is)
       (calls_settle m id (runs.Fire may.now may.around k.path ∷ []) k.recovery f h)
   step_settles m id (Dropped space) k f may h = calls_settle m id (Discard space ∷ []) k.recovery f h
   step_settles m id (Spent tokens) k f may h = h
   step_settles m id (Told control) k f may h = h
+  step_settles m id (Capped size) k f may h = h
+  step_settles m id (Probed time n) k f may h = h
 
   steps_settle : (m : Control C) (id : SpaceId) (xs : List (RecoveryStep C)) (k : Kept C) (f : Fates) → AllMay m xs k → AreSettledOnce id k.recovery f → AreSettledOnce id (steps_after xs k).recovery (steps_fates id xs k f)
   steps_settle m id [] k f may h = h
@@ -341,6 +360,8 @@ module _ {C : Type 0} where
   fates_sent id (Dropped space ∷ xs) k f = fates_sent id xs (step_after (Dropped space) k) (step_fates id (Dropped space) k f)
   fates_sent id (Spent tokens ∷ xs) k f = fates_sent id xs (step_after (Spent tokens) k) f
   fates_sent id (Told control ∷ xs) k f = fates_sent id xs (step_after (Told control) k) f
+  fates_sent id (Capped size ∷ xs) k f = fates_sent id xs (step_after (Capped size) k) f
+  fates_sent id (Probed time n ∷ xs) k f = fates_sent id xs (step_after (Probed time n) k) f
 
 module _ {t : Types} where
   -- each packet is settled once

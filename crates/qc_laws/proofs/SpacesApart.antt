@@ -15,7 +15,6 @@ use Rattle.qc_state.specs.declared.form.Form.{Form}
 use Rattle.qc_state.specs.declared.lower.Lower.{Lower}
 use Rattle.qc_state.specs.declared.numbers.Numbers.{Numbers}
 use Rattle.qc_state.specs.declared.spaces.Spaces.{Spaces}
-use Rattle.qc_state.specs.declared.transmit.TheConstants.{DATAGRAM_SIZE}
 use Rattle.qc_state.specs.declared.waiting.SpaceWaiting.{SpaceWaiting}
 use Rattle.qc_state.specs.declared.waiting.Waiting.{Waiting}
 use Rattle.qc_state.specs.Acks.{is_ack}
@@ -27,8 +26,8 @@ use Rattle.qc_state.specs.Ids.{ids_want, sealed_cid, sealed_cids}
 use Rattle.qc_state.specs.Lower.{datagrams_stepped, frames_sealed, ids_stepped, packet_flown, streams_stepped}
 use Rattle.qc_state.specs.Moves.{Begin, Seal, Skip, Take, armed_with, keys_move, lower_move, move_to, numbers_move, paths_move, state_move, waiting_move}
 use Rattle.qc_state.specs.Numbers.{acked_number, coming_number, is_skipped, next_number, number_used}
-use Rattle.qc_state.specs.Offers.{datagram_waits, packet_begun, probe_begun, probe_sent, short_room, streams_filed, streams_want, wants_sending}
-use Rattle.qc_state.specs.Paths.{path_kept}
+use Rattle.qc_state.specs.Offers.{datagram_waits, packet_begun, path_size, probe_begun, probe_sent, short_room, streams_filed, streams_want, wants_sending}
+use Rattle.qc_state.specs.Paths.{most_on, path_kept}
 use Rattle.qc_state.specs.Sending.{Carries, Going, MayFollow, Sent, begun_after, flown_after, is_flown, is_in_order, is_last_in, packet_after, packet_size, sealed_in, skipped_after, spent_after, wants_in}
 use Rattle.qc_state.specs.Spaces.{is_space, space_of, with_space}
 use Rattle.qc_state.specs.StreamFrames.{sealed_step, sealed_steps}
@@ -207,6 +206,7 @@ module _ {t : Types} where
     pub cids : s'.lower.ids ≡ s.lower.ids
     pub posts : s'.lower.datagrams ≡ s.lower.datagrams
     pub cid : s'.paths.current.remote_cid ≡ s.paths.current.remote_cid
+    pub size : path_size s' ≡ path_size s
     pub coming : coming_number s'.numbers «Data» ≡ coming_number s.numbers «Data»
     pub acked : acked_number s'.numbers «Data» ≡ acked_number s.numbers «Data»
 
@@ -215,7 +215,7 @@ module _ {t : Types} where
   alike_wants Initial s s' h = λ i. (wants_here (h.space i) || (streams_want Initial (h.streams i) || ids_want Initial (h.cids i))) || false
   alike_wants Handshake s s' h = λ i. (wants_here (h.space i) || (streams_want Handshake (h.streams i) || ids_want Handshake (h.cids i))) || false
   alike_wants Data s s' h = λ i. (wants_here (h.space i) || (streams_want «Data» (h.streams i) || ids_want «Data» (h.cids i)))
-      || first_fits (DATAGRAM_SIZE - 16 - (1 + length (h.cid i) + number_len (number_of (h.coming i) (h.acked i)))) (h.posts i).outgoing
+      || first_fits (h.size i - 16 - (1 + length (h.cid i) + number_len (number_of (h.coming i) (h.acked i)))) (h.posts i).outgoing
 
   -- ---- a packet is begun
 
@@ -252,9 +252,10 @@ module _ {t : Types} where
   -- what the pacer spends, and the loss timer, are none of that
   flown_rest : (m : Meaning t) (time size : ℕ) (c : At t) (b : Bool) → let d : At t = flown_after m time size b c in
       (d.state.waiting ≡ c.state.waiting) × (d.state.lower ≡ c.state.lower) × (d.state.numbers ≡ c.state.numbers) × (d.state.paths.current.remote_cid ≡ c.state.paths.current.remote_cid)
-  unfolding armed_with spent_after move_to state_move numbers_move waiting_move lower_move paths_move path_kept
-  flown_rest m time size c true = (refl, refl, refl, refl)
-  flown_rest m time size c false = (refl, refl, refl, refl)
+      × (path_size d.state ≡ path_size c.state)
+  unfolding armed_with spent_after move_to state_move numbers_move waiting_move lower_move paths_move path_kept most_on
+  flown_rest m time size c true = (refl, refl, refl, refl, refl)
+  flown_rest m time size c false = (refl, refl, refl, refl, refl)
 
   sealed_spaces : (m : Meaning t) (time : ℕ) (form : Form) (fs : List FrameValue) (b : At t) →
       (sealed_in m time form fs b).state.waiting.spaces ≡ with_space b.state.waiting.spaces (number_space form) (without_all (space_of b.state.waiting.spaces (number_space form)) fs)
@@ -283,6 +284,7 @@ module _ {t : Types} where
         cids = ap (λ (l : Lower t.S). l.ids) rest.1 ∙ owed.1 ∙ taken.1;
         posts = ap (λ (l : Lower t.S). l.datagrams) rest.1 ∙ owed.2 ∙ taken.2;
         cid = rest.3;
+        size = rest.4;
         coming = ap (λ (v : Numbers). coming_number v «Data») rest.2 ∙ used_coming b.state.numbers x n e;
         acked = ap (λ (v : Numbers). acked_number v «Data») rest.2 ∙ used_acked b.state.numbers x n e;
       }

@@ -66,14 +66,14 @@ none_called (input.RecvDatagram time) read s h = refl
 none_called _ read s h = cc
 
 -- a packet that is sealed leaves them
-flown_streams : {S : Type 0} → (owed : Bool) (l : Lower S) (id : SpaceId) (n : ℕ) (packet : SentPacket) → (if owed then l else packet_flown l id n packet).streams ≡ l.streams
+pub flown_streams : {S : Type 0} → (owed : Bool) (l : Lower S) (id : SpaceId) (n : ℕ) (packet : SentPacket) → (if owed then l else packet_flown l id n packet).streams ≡ l.streams
 unfolding packet_flown
 flown_streams true l id n packet = refl
 flown_streams false l id n packet = refl
 
 -- ---- events, one list behind another
 
-events_append : (es fs : List Event) → streams_told (es ++ fs) ≡ streams_told es ++ streams_told fs
+pub events_append : (es fs : List Event) → streams_told (es ++ fs) ≡ streams_told es ++ streams_told fs
 events_append [] fs = refl
 events_append (HandshakeDataReady ∷ es) fs = events_append es fs
 events_append (Connected ∷ es) fs = events_append es fs
@@ -108,7 +108,7 @@ waiting_by false true hs es o h = heard_events hs _ h ∙ stream_events es o
 waiting_by false false hs es o h = heard_events hs _ h ∙ stream_events es o
 
 module _ {t : Types} where
-  events_wait : (s : View t) → list_all events.is_heard s.life.heard ≡ true → streams_told (waiting_events s) ≡ events_of s.lower.streams
+  pub events_wait : (s : View t) → list_all events.is_heard s.life.heard ≡ true → streams_told (waiting_events s) ≡ events_of s.lower.streams
   unfolding waiting_events ready_event connected_event lost_event
   events_wait s h = waiting_by s.life.ready s.life.connected s.life.heard (events_of s.lower.streams) s.life.lost h
 
@@ -122,7 +122,7 @@ module _ {t : Types} where
   unfolding ids_stepped streams_stepped
   begun_leads id opens s = ap (λ (l : Lower t.S). l.streams) (begun_streams id opens s)
 
-  move_folds : (m : Meaning t) (x : Move t) (s : View t) → IsKnownMove m x s → IsUncalled x → MayMove x s → MoveFolds x s
+  pub move_folds : (m : Meaning t) (x : Move t) (s : View t) → IsKnownMove m x s → IsUncalled x → MayMove x s → MoveFolds x s
   unfolding streams_steps state_move lower_move deeds_move flight_dropped packets_settled timer_fired bytes_came session_read session_wrote limits_learned frame_handed streams_closed streams_stepped datagrams_stepped MayMove after frames_sealed ids_stepped
   move_folds m (Take id fs) s k u may = absurd k
   move_folds m (Seal time form n size fs) s k u may = absurd k
@@ -193,7 +193,7 @@ module _ {t : Types} where
   called_did [] a = refl
   called_did (x ∷ xs) a = called_did xs (move_to (Call x) a)
 
-  called_streams : (xs : List Step) (a : At t) → (called_all xs a).state.lower.streams ≡ after xs a.state.lower.streams
+  pub called_streams : (xs : List Step) (a : At t) → (called_all xs a).state.lower.streams ≡ after xs a.state.lower.streams
   unfolding move_to state_move lower_move streams_stepped datagrams_stepped after frames_sealed ids_stepped
   called_streams [] a = refl
   called_streams (x ∷ xs) a = called_streams xs (move_to (Call x) a)

@@ -174,7 +174,7 @@ unfolding steps_of
 handed_all None s = refl
 handed_all (Some f) s = unless_all (refusal_of f s) (came f) (came_all f)
 
-frame_all : (frame : FrameValue) (s : StreamsState) → list_all is_came (steps_of_frame frame s) ≡ true
+pub frame_all : (frame : FrameValue) (s : StreamsState) → list_all is_came (steps_of_frame frame s) ≡ true
 unfolding steps_of_frame
 frame_all frame s = handed_all _ s
 
@@ -244,7 +244,7 @@ second_known false false c h = cc
 call_known : (x : Step) → is_call x ≡ true → is_other x ≡ false
 call_known x h = second_known (is_came x) (is_call x) _ h
 
-calls_all : (xs : List Step) (s : StreamsState) → AreCalls xs s → list_all is_call xs ≡ true
+pub calls_all : (xs : List Step) (s : StreamsState) → AreCalls xs s → list_all is_call xs ≡ true
 calls_all [] s h = refl
 calls_all (x ∷ xs) s h = both (is_call x) (list_all is_call xs) h.0.0 (calls_all xs (after_step x s) h.1)
 

@@ -1,6 +1,6 @@
 -- Over a run the loss timer stands where an acknowledgement is waited for.
-use Rattle.std.proofs.Common.{◌≡◌, ℕ, ◌+◌, ◌<◌, List, [], ◌∷◌, ◌++◌, length, refl, ap, sym, ◌∙◌, subst, Bool, true, false, Option, Some, None, if◌then◌else◌, append_assoc, append-nil, arith}
-use Rattle.std.specs.Prelude.{not, is_none}
+use Rattle.std.proofs.Common.{◌≡◌, ℕ, ◌+◌, ◌*◌, ◌<◌, List, [], ◌∷◌, ◌++◌, length, refl, ap, sym, ◌∙◌, subst, Bool, true, false, Option, Some, None, if◌then◌else◌, append_assoc, append-nil, arith}
+use Rattle.std.specs.Prelude.{◌&&◌, not, is_none, nat_le}
 use Rattle.qc_base.specs.declared.side.Side.TheVariants.{Client}
 use Rattle.qc_base.specs.declared.side.SpaceId.{SpaceId}
 use Rattle.qc_base.specs.declared.side.SpaceId.TheVariants.{Initial, Handshake, «Data»}
@@ -12,6 +12,7 @@ use Rattle.qc_state.specs.declared.deeds.Did.TheVariants as did
 use Rattle.qc_state.specs.declared.deeds.Quiet.{Quiet}
 use Rattle.qc_state.specs.declared.deeds.Quiet.TheVariants.{NothingOwed, Silent, Amplification, Congestion, Pacing, Killed}
 use Rattle.qc_state.specs.declared.form.Form.{Form}
+use Rattle.qc_state.specs.declared.form.Form.TheVariants as form
 use Rattle.qc_state.specs.declared.input.Input.{Input}
 use Rattle.qc_state.specs.declared.input.Input.TheVariants as input
 use Rattle.qc_state.specs.declared.keys.KeyGroup.{KeyGroup}
@@ -27,13 +28,13 @@ use Rattle.qc_state.specs.Forms.{is_early, number_space}
 use Rattle.qc_state.specs.Headline.{deeds_of}
 use Rattle.qc_state.specs.Keys.{epoch_in, has_keys_for}
 use Rattle.qc_state.specs.Life.{is_drained, is_open}
-use Rattle.qc_state.specs.Moves.{Ack, Arm, Ask, Begin, Clock, Establish, Expect, Finish, Fire, Forget, Give, Hear, MayMove, Move, Pace, Raise, Release, ReportConnected, ReportDrained, ReportLost, ReportNotices, ReportReady, Say, Seal, Shut, Skip, Spend, Tell, Write, armed_after, armed_with, deeds_move, keys_move, move_to, paths_move, state_move, Call, Hold, ReportStreams, Post, ReportAllHeard, Outlive, Want, Issue}
+use Rattle.qc_state.specs.Moves.{Ack, Arm, Ask, Begin, Clock, Establish, Expect, Finish, Fire, Forget, Give, Hear, MayMove, Move, Pace, Probe, Raise, Release, ReportConnected, ReportDrained, ReportLost, ReportNotices, ReportReady, Say, Seal, Shut, Skip, Spend, Tell, Write, armed_after, armed_with, deeds_move, keys_move, move_to, paths_move, state_move, Call, Hold, ReportStreams, Post, ReportAllHeard, Outlive, Want, Issue}
 use Rattle.qc_state.specs.Numbers.{next_number}
 use Rattle.qc_state.specs.Paths.{is_blocked, path_kept}
 use Rattle.qc_state.specs.Receiving.{counted_after, cut_of, datagram_after, first_after, first_token, heard_after, pieces_after}
 use Rattle.qc_state.specs.Recovering.{fired_by, is_validated_by_peer, loss_time}
 use Rattle.qc_state.specs.Run.{IsAllowed, IsStep, Run, began, called, close_after, input_after, reported, step_after, time_of, datagram_limit}
-use Rattle.qc_state.specs.Sending.{Choice, Died, Ending, Going, Held, Hushed, MayAll, MayEnd, MayFollow, MayOpen, MayStand, MayTransmit, Sent, Went, begun_after, drops_initial, ending_after, finished_after, flown_after, going_from, gone_after, handshake_left, initial_left, is_flown, packet_after, packets_after, sealed_in, spared_after, spent_after, told_sent, transmit_after, held_after}
+use Rattle.qc_state.specs.Sending.{Choice, Died, Ending, Going, Held, Hushed, MayAll, MayEnd, MayFollow, MayOpen, MayProbe, MayStand, MayTransmit, Probed, Sent, Went, begun_after, drops_initial, ending_after, finished_after, flown_after, going_from, gone_after, handshake_left, initial_left, is_flown, is_key_nearly_used_up, next_segment, paced_until, packet_after, packets_after, probe_begun_after, probe_frames, probe_sealed, probed_after, sealed_in, spared_after, spent_after, told_sent, transmit_after, held_after}
 use Rattle.qc_state.specs.Stopping.{given_after, key_limit_error, killed_after}
 use Rattle.qc_laws.specs.TimerLaws.{KeepsTimer, TimerHolds, awaits_ack, elicits_in, has_asked, has_probe_keys, must_probe, sealed_since}
 use Rattle.qc_state.specs.Timeouts.{ack_expired, close_expired, idle_expired, loss_expired, pacing_expired, timeout_after, ids_expired, wanted_anew}
@@ -47,6 +48,7 @@ use Rattle.qc_laws.proofs.EndsHold.{began_ends, ends_seal, known_keeps, step_end
 use Rattle.qc_state.proofs.Expired.{IsTimed, holds_timeout}
 use Rattle.qc_laws.proofs.KnownMoves.{IsKnownMove, packet_known}
 use Rattle.qc_state.proofs.OpenPackets.{holds_packet}
+use Rattle.qc_state.proofs.Probing.{due_established, due_keyed, due_validated, established_alive, probe_keys}
 use Rattle.qc_state.proofs.PacketMoves.{IsInPacket, OpenPacket}
 use Rattle.qc_state.proofs.ReceivedMoves.{IsUnopened, close_for}
 use Rattle.qc_laws.proofs.Receives.{pieces_hold}
@@ -57,6 +59,11 @@ use Rattle.qc_laws.proofs.TimerMoves.{HoldsIf, IsFree, IsPlain, arm_holds, holds
 use Rattle.qc_laws.proofs.StreamCalls.{called_input}
 use Rattle.qc_datagrams.specs.Steps as datagrams
 use Rattle.qc_cids.specs.Cids.{asks_anew}
+
+-- an address that is validated blocks nothing
+unblocked_at : {C : Type 0} → (p : Paths C) → p.current.validated ≡ true → is_blocked p ≡ true → ⊥
+unfolding is_blocked
+unblocked_at p validated h = absurd (let no : false ≡ true = ap (λ (b : Bool). not b && nat_le (3 * p.current.received) p.current.sent) (sym validated) ∙ h in cc)
 
 module _ {t : Types} where
   -- from one moment to another the law holds on, in a time in which datagrams may be begun, or not
@@ -171,6 +178,7 @@ module _ {t : Types} where
   packet_frees m o free (Arm at) a h may = frees_timer free o.coming.time at a h
   packet_frees m o free (Seal time form n size fs) a h may = absurd h
   packet_frees m o free (Finish bytes control) a h may = absurd h
+  packet_frees m o free (Probe time n bytes q) a h may = absurd h
   packet_frees m o free (Hear bytes) a h may = absurd h
   packet_frees m o free (Fire after) a h may = absurd h
   packet_frees m o free (Raise to) a h may = absurd h
@@ -188,6 +196,7 @@ module _ {t : Types} where
   unopened_frees m at_time free (Arm at) a h may = absurd h
   unopened_frees m at_time free (Seal time form n size fs) a h may = absurd h
   unopened_frees m at_time free (Finish bytes control) a h may = absurd h
+  unopened_frees m at_time free (Probe time n bytes q) a h may = absurd h
   unopened_frees m at_time free (Hear bytes) a h may = absurd h
   unopened_frees m at_time free (Fire after) a h may = absurd h
   unopened_frees m at_time free (Ack id n after) a h may = absurd h
@@ -369,12 +378,44 @@ module _ {t : Types} where
       let d : At t = spared_after time b.worn c in
       keeps_next free a c _ (shook_keeps m free time b.shook a) (keeps_next free c d _ (spared_keeps m free time b.worn c) (keeps_plain m free (Finish b.total _) d tt))
 
-  ending_keeps : (m : Meaning t) (free : Bool) (time : ℕ) (e : Ending) (b : Batch) (a : At t) → Keeps free a (ending_after m time e b a)
+  -- a probe of the path's size
+  held_ends : (m : Meaning t) (time : ℕ) (quiet : Quiet) (b : Batch) (a : At t) → is_drained a.state.life.state ≡ false → Ends a.state → Ends (held_after m time quiet b a).state
+  unfolding held_after MayMove
+  held_ends m time Pacing b a alive h = known_keeps m (Hold (paced_until m time a.state (next_segment b))) a tt alive h
+  held_ends m time NothingOwed b a alive h = h
+  held_ends m time Silent b a alive h = h
+  held_ends m time Amplification b a alive h = h
+  held_ends m time Congestion b a alive h = h
+  held_ends m time Killed b a alive h = h
+
+  asked_ends : (m : Meaning t) (id : SpaceId) (a : At t) → Ends a.state → Ends (move_to (Ask id) a).state
+  unfolding MayMove
+  asked_ends m id a h = known_keeps m (Ask id) a tt tt h
+
+  probe_keeps : (m : Meaning t) (free : Bool) (time size : ℕ) (quiet : Quiet) (b : Batch) (a : At t) → Ends a.state → MayProbe m time a.state b quiet size → Keeps free a (probed_after m time size quiet b a)
+  unfolding probed_after probe_sealed probe_begun_after
+  probe_keeps m free time size quiet b a ends may =
+      let held : At t = held_after m time quiet b a in
+      let asked : At t = move_to (Ask «Data») held in
+      let begun : At t = probe_begun_after m time quiet b a in
+      let fs : List FrameValue = probe_frames begun.state size in
+      let taken : At t = sealed_in m time form.OneRtt fs begun in
+      let probe : Move t = Probe time (next_number begun.state.numbers «Data») size quiet in
+      let kept : Ends begun.state = begun_ends m «Data» false asked (asked_ends m «Data» held (held_ends m time quiet b a (established_alive a.state.life.state (due_established time size a.state may.due)) ends)) in
+      let keyed : has_keys_for begun.state.keys form.OneRtt ≡ true = ap (λ (k : KeyGroup t.H t.P). has_keys_for k form.OneRtt) (probe_keys m time quiet b a) ∙ due_keyed time size a.state may.due in
+      keeps_next free a held _ (held_keeps m free time quiet b a)
+      (keeps_next free held asked _ (keeps_plain m free (Ask «Data») held tt)
+      (keeps_next free asked begun _ (holds_begun (Keeps free) (keeps_here free) (keeps_next free) «Data» false asked (λ c. keeps_plain m free (Begin «Data» false) c tt) (λ c may. keeps_plain m free Skip c tt))
+      (keeps_next free begun taken _ (keeps_sealed m free time form.OneRtt fs begun kept keyed)
+      (keeps_next free taken (move_to probe taken) _ (keeps_plain m free probe taken tt) (spared_keeps m free time (is_key_nearly_used_up begun.state form.OneRtt) (move_to probe taken))))))
+
+  ending_keeps : (m : Meaning t) (free : Bool) (time : ℕ) (e : Ending) (b : Batch) (a : At t) → Ends a.state → MayEnd m time e a.state b → Keeps free a (ending_after m time e b a)
   unfolding ending_after
-  ending_keeps m free time Went b a = finished_keeps m free time b a
-  ending_keeps m free time Held b a = let c : At t = held_after m time Pacing b a in keeps_next free a c _ (held_keeps m free time Pacing b a) (finished_keeps m free time b c)
-  ending_keeps m free time (Hushed quiet) b a = let c : At t = held_after m time quiet b a in keeps_next free a c _ (held_keeps m free time quiet b a) (keeps_plain m free (Say quiet) c tt)
-  ending_keeps m free time (Died why) b a = let c : At t = killed_after why a in keeps_next free a c _ (keeps_killed m free why a) (keeps_plain m free (Say Killed) c tt)
+  ending_keeps m free time Went b a ends may = finished_keeps m free time b a
+  ending_keeps m free time Held b a ends may = let c : At t = held_after m time Pacing b a in keeps_next free a c _ (held_keeps m free time Pacing b a) (finished_keeps m free time b c)
+  ending_keeps m free time (Hushed quiet) b a ends may = let c : At t = held_after m time quiet b a in keeps_next free a c _ (held_keeps m free time quiet b a) (keeps_plain m free (Say quiet) c tt)
+  ending_keeps m free time (Probed quiet size) b a ends may = probe_keeps m free time size quiet b a ends may.0
+  ending_keeps m free time (Died why) b a ends may = let c : At t = killed_after why a in keeps_next free a c _ (keeps_killed m free why a) (keeps_plain m free (Say Killed) c tt)
 
   -- a transmit that seals nothing leaves the path
   given_paths : (why : ConnectionError) (a : At t) (b : Bool) → let c : At t = move_to (Raise state.Drained) a in (if b then move_to (Give why) c else c).state.paths ≡ a.state.paths
@@ -391,6 +432,7 @@ module _ {t : Types} where
   quiet_stays m time Went b a none may h = let some : 0 < b.made = may.some in absurd (omega (arith, none, some))
   quiet_stays m time Held b a none may h = let some : 0 < b.made = may.0.some in absurd (omega (arith, none, some))
   quiet_stays m time (Hushed quiet) b a none may h = quiet_blocked (held_after m time quiet b a).state.paths quiet ∙ ap (λ (p : Paths t.C). is_blocked p) (held_paths m time quiet b a) ∙ h
+  quiet_stays m time (Probed quiet size) b a none may h = let validated : a.state.paths.current.validated ≡ true = due_validated time size a.state may.0.due in absurd (unblocked_at a.state.paths validated h)
   quiet_stays m time (Died why) b a none may h = quiet_blocked (killed_after why a).state.paths Killed ∙ ap (λ (p : Paths t.C). is_blocked p) (killed_paths why a) ∙ h
 
   -- the moves of a packet keep what is known of the end of a connection
@@ -405,6 +447,10 @@ module _ {t : Types} where
   packet_ends m time p g may =
       packets_told m (λ (b c : At t). Ends b.state → Ends c.state) (λ b h. h) (λ b c d g h e. h (g e)) (λ x r b h. known_keeps m x b (unspent_known m x b.state r) h)
       (λ at_time size b. known_keeps m (Spend _) b (record { time = at_time; size = size; is = refl }) tt) (λ at_time form fs b h. ends_seal at_time form fs b h) time (p ∷ []) g (may, tt)
+
+  all_ends : (m : Meaning t) (time : ℕ) (ps : List Sent) (g : Going t) → MayAll m time g ps → Ends g.now.state → Ends (packets_after m time ps g).now.state
+  all_ends m time [] g may ends = ends
+  all_ends m time (p ∷ ps) g may ends = all_ends m time ps (packet_after m time p g) may.1 (packet_ends m time p g may.0 ends)
 
   packets_keep : (m : Meaning t) (free : Bool) (time : ℕ) (ps : List Sent) (g : Going t) → Ends g.now.state → MayAll m time g ps → Keeps free g.now (packets_after m time ps g).now
   packets_keep m free time [] g ends may = keeps_here free g.now
@@ -422,10 +468,10 @@ module _ {t : Types} where
   packets_hold : (m : Meaning t) (time asked : ℕ) (ps : List Sent) (e : Ending) (a : At t) → let g : Going t = packets_after m time ps (going_from asked a) in
       Ends a.state → MayAll m time (going_from asked a) ps → MayEnd m time e g.now.state g.batch → Holds a (ending_after m time e g.batch g.now)
   packets_hold m time asked [] e a ends may end =
-      keeps_holds a _ (is_blocked a.state.paths) refl (quiet_stays m time e (going_from asked a).batch a refl end) (λ free unblocked. ending_keeps m free time e (going_from asked a).batch a)
+      keeps_holds a _ (is_blocked a.state.paths) refl (quiet_stays m time e (going_from asked a).batch a refl end) (λ free unblocked. ending_keeps m free time e (going_from asked a).batch a ends end)
   packets_hold m time asked (p ∷ ps) e a ends may end =
       let g : Going t = packets_after m time (p ∷ ps) (going_from asked a) in
-      free_holds a _ (first_free m time asked p a may.0) (keeps_next true a g.now _ (packets_keep m true time (p ∷ ps) (going_from asked a) ends may) (ending_keeps m true time e g.batch g.now))
+      free_holds a _ (first_free m time asked p a may.0) (keeps_next true a g.now _ (packets_keep m true time (p ∷ ps) (going_from asked a) ends may) (ending_keeps m true time e g.batch g.now (all_ends m time (p ∷ ps) (going_from asked a) may ends) end))
 
   transmit_holds : (m : Meaning t) (time asked : ℕ) (choice : Choice) (a : At t) → Ends a.state → MayTransmit m time asked choice a → Holds a (transmit_after m time asked choice a)
   unfolding MayTransmit transmit_after gone_after

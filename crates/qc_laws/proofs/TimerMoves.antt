@@ -32,8 +32,8 @@ use Rattle.qc_state.specs.Flight.{counts_in_flight, flown_packet, is_padding}
 use Rattle.qc_state.specs.Forms.{number_space}
 use Rattle.qc_state.specs.Life.{connected_reported, data_ready, drained_reported, identifiers_wanted, is_established, is_handshake, is_open, life_closed, life_drained, life_established, life_raised, lost_reported, notice_reported, notices_reported, rank_of, ready_reported, reason_given, token_learned, all_heard_reported, heard_reported, datagram_heard, is_drained}
 use Rattle.qc_state.specs.Lower.{bytes_came, flight_dropped, packet_flown, packets_settled, session_read, session_wrote, timer_fired, limits_learned, frame_handed, streams_closed, streams_stepped, event_told, events_told, datagrams_stepped, frames_sealed, ids_stepped}
-use Rattle.qc_state.specs.Moves.{Accept, Ack, AreNext, Arm, Begin, Establish, Fail, Finish, Fire, Forget, Give, Hear, IsTold, Move, PeerCloses, PeerClosesToo, Raise, Seal, Shut, Take, Tell, Write, armed_with, deeds_move, keys_move, life_move, lower_move, move_to, paths_move, setup_move, state_move, timers_move, waiting_move, Hand, told_to_streams, Insert, Switch, Retire, Issue, Say, Spend}
-use Rattle.qc_state.specs.Paths.{is_blocked, path_accepted, path_kept, path_spun, peer_fixed, path_named}
+use Rattle.qc_state.specs.Moves.{Accept, Ack, AreNext, Arm, Begin, Establish, Fail, Finish, Fire, Forget, Give, Hear, IsTold, Move, PeerCloses, PeerClosesToo, Probe, Raise, Seal, Shut, Take, Tell, Write, armed_with, deeds_move, keys_move, life_move, lower_move, move_to, paths_move, setup_move, state_move, timers_move, waiting_move, Hand, told_to_streams, Insert, Switch, Retire, Issue, Say, Spend}
+use Rattle.qc_state.specs.Paths.{is_blocked, path_accepted, path_kept, path_spun, peer_fixed, path_named, path_capped}
 use Rattle.qc_state.specs.Recovering.{around_of, fired_by, is_validated_by_peer, loss_time, settled_by}
 use Rattle.qc_state.specs.Sending.{flown_after, is_flown, packet_size, sealed_in, spent_after}
 use Rattle.qc_laws.specs.TimerLaws.{FlightHolds, SpaceHolds, TimerHolds, awaits_ack, elicits_in, has_asked, has_probe_keys, must_probe, sealed_since}
@@ -469,12 +469,14 @@ module _ {t : Types} where
   -- they leave a path free that is free, but for bytes that are sent or come
   abbrev pub IsFree : Move t → Type 0
   IsFree (Finish bytes control) = ⊥
+  IsFree (Probe time n bytes q) = ⊥
   IsFree (Hear bytes) = ⊥
   IsFree _ = Unit {0}
 
   pub plain_free : (x : Move t) (s : View t) → IsFree x → is_blocked s.paths ≡ false → is_blocked (paths_move x s) ≡ false
-  unfolding paths_move peer_fixed path_kept path_named is_blocked
+  unfolding paths_move peer_fixed path_kept path_named is_blocked path_capped
   plain_free (Finish bytes control) s k h = absurd k
+  plain_free (Probe time n bytes q) s k h = absurd k
   plain_free (Hear bytes) s k h = absurd k
   plain_free (Accept time id n e g v) s k h = spun_free (path_accepted s.paths id v) s.setup.fixed.side _ g.spin (accepted_free s.paths id v h)
   plain_free (Say quiet) s k h = quiet_blocked s.paths quiet ∙ h

@@ -1,6 +1,6 @@
 -- Over a run the bytes in flight keep within the congestion window.
 use Rattle.std.proofs.Common.{◌≡◌, ◌⊎◌, inl, inr, ℕ, ◌+◌, ◌-◌, ◌<◌, ◌≤◌, List, [], ◌∷◌, ◌++◌, refl, ap, sym, ◌∙◌, subst, Bool, true, false, Some, None, if◌then◌else◌, append_assoc, arith}
-use Rattle.std.specs.Prelude.{IsPermutation, cond, is_some, nat_le, not, ◌==◌, ◌||◌, ◌&&◌}
+use Rattle.std.specs.Prelude.{IsPermutation, cond, is_none, is_some, nat_le, not, ◌==◌, ◌||◌, ◌&&◌}
 use Rattle.std.specs.List.{list_any}
 use Rattle.std.proofs.lemmas.Bool.Decides.{nat_tests}
 use Rattle.std.proofs.lemmas.List.Folds.{list_any-append}
@@ -13,6 +13,7 @@ use Rattle.qc_base.specs.declared.side.SpaceId.TheVariants.{Initial, Handshake, 
 use Rattle.qc_flight.specs.Packets.{Entry, bytes_of, counted_bytes}
 use Rattle.qc_flight.specs.declared.sent.SentPacket.{SentPacket}
 use Rattle.qc_frame.specs.Frame.{FrameValue}
+use Rattle.qc_path.specs.Mtu.{Mtu, is_probe, probe_sent}
 use Rattle.qc_path.specs.declared.controller.Controller.{Ghosts as Control}
 use Rattle.qc_recovery.specs.Calls.{dropped_after}
 use Rattle.qc_recovery.specs.Steps.{After, FiredAfter, ack_after, all_bytes, sent_after, space_dropped, space_sent, timeout_after}
@@ -25,44 +26,52 @@ use Rattle.qc_recovery.specs.declared.path.PathData.{PathData}
 use Rattle.qc_recovery.specs.declared.recovery.Recovery.{Recovery}
 use Rattle.qc_state.specs.declared.deeds.Did.{Did}
 use Rattle.qc_state.specs.declared.deeds.Did.TheVariants as did
+use Rattle.qc_state.specs.declared.deeds.Quiet.{Quiet}
 use Rattle.qc_state.specs.declared.deeds.Quiet.TheVariants.{Amplification}
 use Rattle.qc_state.specs.declared.form.Form.{Form}
+use Rattle.qc_state.specs.declared.form.Form.TheVariants as form
 use Rattle.qc_state.specs.declared.coming.Coming.{Coming}
 use Rattle.qc_state.specs.declared.input.Input.{Input}
 use Rattle.qc_state.specs.declared.input.Input.TheVariants as input
 use Rattle.qc_state.specs.declared.life.Close.{Close}
+use Rattle.qc_state.specs.declared.life.ConnectionError.{ConnectionError}
 use Rattle.qc_state.specs.declared.lower.Lower.{Lower}
+use Rattle.qc_state.specs.declared.paths.Path.{Path}
+use Rattle.qc_state.specs.declared.paths.Paths.{Paths}
 use Rattle.qc_state.specs.declared.trace.Step.{Step}
 use Rattle.qc_state.specs.declared.transmit.Batch.{Batch}
 use Rattle.qc_state.specs.Flight.{flown_packet}
-use Rattle.qc_state.specs.Forms.{number_space}
-use Rattle.qc_state.specs.Keys.{has_keys}
+use Rattle.qc_state.specs.Forms.{is_early, number_space}
+use Rattle.qc_state.specs.Keys.{epoch_in, has_keys}
 use Rattle.qc_state.specs.Life.{is_open}
 use Rattle.qc_state.specs.Lower.{bytes_came, datagrams_stepped, event_told, events_told, flight_dropped, frame_handed, frames_sealed, ids_stepped, limits_learned, packet_flown, packets_settled, session_read, session_wrote, streams_closed, streams_stepped, timer_fired}
-use Rattle.qc_state.specs.Moves.{Ack, Arm, Ask, Begin, Call, Fire, Forget, Issue, Move, Post, Seal, Shut, Skip, Spend, Take, armed_with, deeds_move, lower_move, move_to, numbers_move, paths_move, state_move, waiting_move}
+use Rattle.qc_state.specs.Moves.{Ack, Arm, Ask, Begin, Call, Fire, Forget, Issue, Move, Post, Probe, Seal, Shut, Skip, Spend, Take, armed_with, Give, deeds_move, lower_move, move_to, numbers_move, paths_move, state_move, waiting_move}
 use Rattle.qc_state.specs.Numbers.{next_number}
 use Rattle.qc_state.specs.Offers.{datagram_waits, short_room, waits_in, wants_sending}
 use Rattle.qc_state.specs.Paths.{is_blocked_behind, path_kept}
 use Rattle.qc_state.specs.Receiving.{datagram_after}
 use Rattle.qc_state.specs.Recovering.{fired_by, settled_by}
 use Rattle.qc_state.specs.Run.{IsAllowed, IsStep, Run, began, called, close_after, datagram_limit, input_after, reported, step_after, time_of}
-use Rattle.qc_state.specs.Sending.{Choice, Ending, Going, MayAll, MayEnd, MayFollow, MayOpen, MayStand, MayTransmit, Sent, batch_grown, batch_opened, begun_after, begun_batch, ending_after, flown_after, going_from, gone_after, held_in, is_congested, is_eager, is_flown, is_in_order, is_last_in, limit_in, next_segment, owes_in, packet_after, packet_size, packets_after, paced_until, sealed_in, spent_after, takes_another, transmit_after, wants_in}
+use Rattle.qc_state.specs.Sending.{Choice, Died, Ending, Going, Held, Hushed, MayAll, MayEnd, MayFollow, MayOpen, MayProbe, MayStand, MayTransmit, Probed, Sent, Went, batch_grown, batch_opened, begun_after, begun_batch, ending_after, flown_after, going_from, gone_after, held_in, is_congested, is_eager, is_flown, is_in_order, is_key_nearly_used_up, is_last_in, limit_in, next_segment, owes_in, packet_after, packet_size, packets_after, paced_until, probe_begun_after, probe_frames, probe_sealed, probed_after, sealed_in, spared_after, spent_after, takes_another, transmit_after, wants_in}
 use Rattle.qc_state.specs.Spaces.{is_space, space_of}
+use Rattle.qc_state.specs.Stopping.{given_after, stopped_after}
 use Rattle.qc_state.specs.Timeouts as timeouts
 use Rattle.qc_state.specs.Types.{Types, Meaning}
 use Rattle.qc_state.specs.View.{View, At}
-use Rattle.qc_laws.specs.WindowLaws.{EachKeepsWindow, KeepsWindow, in_flight, is_exempt, window_of}
+use Rattle.qc_laws.specs.WindowLaws.{EachKeepsWindow, KeepsWindow, in_flight, is_exempt, seals_probe, window_of}
 use Rattle.qc_state.proofs.Batches.{joins_some, opened_most}
 use Rattle.qc_state.proofs.Begun.{begun_same, holds_begun}
 use Rattle.qc_state.proofs.Expired.{IsExpiry, holds_expired}
 use Rattle.qc_state.proofs.OpenPackets.{holds_packet}
 use Rattle.qc_state.proofs.PacketMoves.{IsInPacket, OpenPacket}
 use Rattle.qc_state.proofs.Probed.{begun_streams}
+use Rattle.qc_state.proofs.Quieted.{probed_current}
+use Rattle.qc_state.proofs.Probing.{due_searched, probe_paths}
 use Rattle.qc_state.proofs.ReceivedMoves.{IsOutside}
 use Rattle.qc_state.proofs.Telling.{told_appends}
-use Rattle.qc_state.proofs.Transmitted.{IsPacketMove, IsSending, holds_ending, holds_packets}
+use Rattle.qc_state.proofs.Transmitted.{IsPacketMove, IsSending, IsUnprobed, holds_ending, holds_packets, holds_spared, holds_unprobed}
 use Rattle.qc_laws.proofs.CryptoPlaces.{FiresIn, ack_flight, ack_other, fired_flight, same_or}
-use Rattle.qc_laws.proofs.InitialLeft.{packet_deeds, sealed_deed}
+use Rattle.qc_laws.proofs.InitialLeft.{flown_deeds, packet_deeds, sealed_deed, sealed_deeds}
 use Rattle.qc_laws.proofs.KnownMoves.{IsFiredBy, IsSettledBy, packet_known}
 use Rattle.qc_laws.proofs.Receives.{datagram_holds}
 use Rattle.qc_laws.proofs.SpacesApart.{further, packet_probes, packet_wants}
@@ -204,6 +213,10 @@ module _ {S : Type 0} where
   owed_bytes true l id n most packet small = no_fewer most l.recovery
   owed_bytes false l id n most packet small = sent_bytes id n most packet l.recovery small
 
+any_between : (f : Did → Bool) (ds : List Did) (d : Did) (es : List Did) → f d ≡ true → list_any f ((ds ++ d ∷ []) ++ es) ≡ true
+any_between f ds d es h =
+    list_any-append f (ds ++ d ∷ []) es ∙ any_left (list_any f (ds ++ d ∷ [])) (list_any f es) (list_any-append f ds (d ∷ []) ∙ any_right (list_any f ds) (list_any f (d ∷ [])) (rw h refl))
+
 module _ {t : Types} where
   -- ---- what a transmit does to what is in flight
 
@@ -261,8 +274,8 @@ module _ {t : Types} where
   expiry_settling m (Fire after) s r = absurd r
   expiry_settling m _ s r = tt
 
-  ending_fewer : (m : Meaning t) (time : ℕ) (e : Ending) (b : Batch) (a : At t) → MayEnd m time e a.state b → Fewer a (ending_after m time e b a)
-  ending_fewer m time e b a may = holds_ending Fewer fewer_here fewer_next (λ x r c h. move_fewer m x c (sending_settling m x c.state r)) m time e b a may
+  ending_fewer : (m : Meaning t) (time : ℕ) (e : Ending) (b : Batch) (a : At t) → IsUnprobed e → MayEnd m time e a.state b → Fewer a (ending_after m time e b a)
+  ending_fewer m time e b a plain may = holds_unprobed Fewer fewer_here fewer_next (λ x r c h. move_fewer m x c (sending_settling m x c.state r)) m time e b a plain may
 
   -- the packets of recovery, as a packet is begun, taken and sealed
   begun_recovery : (id : SpaceId) (opens : Bool) (a : At t) → (begun_after id opens a).state.lower.recovery ≡ a.state.lower.recovery
@@ -335,7 +348,7 @@ module _ {t : Types} where
       holds_packets (Does f) (λ a h. h) (λ a b c g h some. h (g some)) (λ x r a h. does_move f x a) (λ time form fs a h. does_seal f time _ _ form fs a) m time ps g may
 
   does_ending : (f : Did → Bool) (m : Meaning t) (time : ℕ) (e : Ending) (b : Batch) (a : At t) → MayEnd m time e a.state b → Does f a (ending_after m time e b a)
-  does_ending f m time e b a may = holds_ending (Does f) (λ a h. h) (λ a b c g h some. h (g some)) (λ x r a h. does_move f x a) m time e b a may
+  does_ending f m time e b a may = holds_ending (Does f) (λ a h. h) (λ a b c g h some. h (g some)) (λ x r a h. does_move f x a) (λ at_time fs a h. does_seal f at_time _ _ form.OneRtt fs a) m time e b a may
 
   -- where the space of a packet wasn't eager as the transmit began, its deed is one of those that the window mustn't hold back
   exempt_first : (s : View t) (d : Did) (ds : List Did) → is_exempt s d ≡ true → list_any (is_exempt s) (d ∷ ds) ≡ true
@@ -454,21 +467,99 @@ module _ {t : Types} where
   keeps_packets m time (p ∷ ps) a g may (inl some) = inl (does_packets (is_exempt a.state) m time (p ∷ ps) g may some)
   keeps_packets m time (p ∷ ps) a g may (inr h) = keeps_packets m time ps a (packet_after m time p g) may.1 (keeps_packet m time p a g may.0 h)
 
-  -- how it ends puts no more bytes in flight
-  keeps_window : (m : Meaning t) (time : ℕ) (e : Ending) (a : At t) (g : Going t) → Keeps m a g → MayEnd m time e g.now.state g.batch → KeepsWindow m (ending_after m time e g.batch g.now).did a.state (ending_after m time e g.batch g.now).state
+  -- how it ends puts no more bytes in flight, but with a probe of the path's size
+  unprobed_window : (m : Meaning t) (time : ℕ) (e : Ending) (a : At t) (g : Going t) → IsUnprobed e → Keeps m a g → MayEnd m time e g.now.state g.batch →
+      KeepsWindow m (ending_after m time e g.batch g.now).did a.state (ending_after m time e g.batch g.now).state
   unfolding KeepsWindow
-  keeps_window m time e a g (inl some) ends = λ more. inr (does_ending (is_exempt a.state) m time e g.batch g.now ends some)
-  keeps_window m time e a g (inr h) ends = λ more. window_by more h.under
+  unprobed_window m time e a g plain (inl some) ends = λ more. inr (inl (does_ending (is_exempt a.state) m time e g.batch g.now ends some))
+  unprobed_window m time e a g plain (inr h) ends = λ more. window_by more h.under
     where
       end : At t
       end = ending_after m time e g.batch g.now
 
-      window_by : in_flight a.state < in_flight end.state → AreUnder m a g → (in_flight end.state < window_of m a.state) ⊎ (list_any (is_exempt a.state) end.did ≡ true)
-      window_by more (inl none) = let few : in_flight g.now.state ≤ in_flight a.state = none.1 in let fewer : in_flight end.state ≤ in_flight g.now.state = ending_fewer m time e g.batch g.now ends in absurd (omega (arith, more, few, fewer))
+      window_by : in_flight a.state < in_flight end.state → AreUnder m a g → (in_flight end.state < window_of m a.state) ⊎ ((list_any (is_exempt a.state) end.did ≡ true) ⊎ (list_any (seals_probe end.state) end.did ≡ true))
+      window_by more (inl none) =
+          let few : in_flight g.now.state ≤ in_flight a.state = none.1 in
+          let fewer : in_flight end.state ≤ in_flight g.now.state = ending_fewer m time e g.batch g.now plain ends in
+          absurd (omega (arith, more, few, fewer))
       window_by more (inr under) =
-          let fewer : in_flight end.state ≤ in_flight g.now.state = ending_fewer m time e g.batch g.now ends in
+          let fewer : in_flight end.state ≤ in_flight g.now.state = ending_fewer m time e g.batch g.now plain ends in
           let held : in_flight g.now.state ≤ 18446744073709551615 = flight_held g.now.state.lower.recovery in
           inl (ends_under (window_of m a.state) (in_flight g.now.state) (in_flight end.state) (g.batch.capacity - g.batch.filled) fewer held under)
+
+  -- the search of the path's size as a probe is sealed
+  abbrev SameSearch : At t → At t → Type 0
+  SameSearch a b = b.state.paths.current.kept.mtud ≡ a.state.paths.current.kept.mtud
+
+  search_flown : (m : Meaning t) (time size : ℕ) (a : At t) (b : Bool) → SameSearch a (flown_after m time size b a)
+  unfolding armed_with spent_after move_to state_move paths_move path_kept
+  search_flown m time size a true = refl
+  search_flown m time size a false = refl
+
+  search_sealed : (m : Meaning t) (time : ℕ) (form : Form) (fs : List FrameValue) (a : At t) → SameSearch a (sealed_in m time form fs a)
+  unfolding sealed_in move_to state_move paths_move
+  search_sealed m time form fs a = search_flown m time _ _ (is_flown a.state fs)
+
+  -- the search waits for it from then on
+  probe_searched : (m : Meaning t) (time size : ℕ) (quiet : Quiet) (a : At t) →
+      (probe_sealed m time size quiet a).state.paths.current.kept.mtud ≡ probe_sent time (next_number a.state.numbers «Data») a.state.paths.current.kept.mtud
+  unfolding probe_sealed move_to state_move paths_move
+  probe_searched m time size quiet a =
+      let n : ℕ = next_number a.state.numbers «Data» in
+      let fs : List FrameValue = probe_frames a.state size in
+      ap (λ (p : Path t.C). p.kept.mtud) (probed_current (sealed_in m time form.OneRtt fs a).state.paths time n size quiet) ∙ ap (λ (x : Mtu). probe_sent time n x) (search_sealed m time form.OneRtt fs a)
+
+  given_searched : (why : ConnectionError) (b : At t) (x : Bool) → SameSearch b (if x then move_to (Give why) b else b)
+  unfolding move_to state_move paths_move
+  given_searched why b true = refl
+  given_searched why b false = refl
+
+  stopped_searched : (time : ℕ) (close : Close) (why : ConnectionError) (a : At t) (b : Bool) → SameSearch a (if b then given_after why (move_to (Shut time close) a) else a)
+  unfolding given_after move_to state_move paths_move
+  stopped_searched time close why a true = given_searched why (move_to (Shut time close) a) (is_none (move_to (Shut time close) a).state.life.reason)
+  stopped_searched time close why a false = refl
+
+  spared_searched : (time : ℕ) (nearly : Bool) (a : At t) → SameSearch a (spared_after time nearly a)
+  unfolding spared_after stopped_after
+  spared_searched time false a = refl
+  spared_searched time true a = stopped_searched time _ _ a (is_open a.state.life.state)
+
+  -- and its deed tells its number
+  probe_deeds : (m : Meaning t) (time size : ℕ) (quiet : Quiet) (a : At t) → let n : ℕ = next_number a.state.numbers «Data» in
+      (probe_sealed m time size quiet a).did ≡ (a.did ++ did.Sealed «Data» n (epoch_in a.state.keys form.OneRtt) (is_early form.OneRtt) (probe_frames a.state size) ∷ []) ++ deeds_move (Probe time n size quiet) (sealed_in m time form.OneRtt (probe_frames a.state size) a).state
+  unfolding probe_sealed sealed_in move_to
+  probe_deeds m time size quiet a =
+      let n : ℕ = next_number a.state.numbers «Data» in
+      let fs : List FrameValue = probe_frames a.state size in
+      let b : At t = move_to (Seal time form.OneRtt n (packet_size a.state form.OneRtt fs) fs) (move_to (Take «Data» fs) a) in
+      let c : At t = sealed_in m time form.OneRtt fs a in
+      told_appends c.did (deeds_move (Probe time n size quiet) c.state)
+      ∙ ap (λ (ds : List Did). ds ++ deeds_move (Probe time n size quiet) c.state) (flown_deeds m time (packet_size a.state form.OneRtt fs) b (is_flown a.state fs) ∙ sealed_deeds time form.OneRtt n (packet_size a.state form.OneRtt fs) fs a)
+
+  -- so the deed is that of the probe which the search waits for
+  probe_seals : (m : Meaning t) (time size : ℕ) (quiet : Quiet) (b : Batch) (a : At t) → MayProbe m time a.state b quiet size →
+      list_any (seals_probe (probed_after m time size quiet b a).state) (probed_after m time size quiet b a).did ≡ true
+  unfolding probed_after
+  probe_seals m time size quiet b a may =
+      let c : At t = probe_begun_after m time quiet b a in
+      let n : ℕ = next_number c.state.numbers «Data» in
+      let d : At t = probe_sealed m time size quiet c in
+      let nearly : Bool = is_key_nearly_used_up c.state form.OneRtt in
+      let end : At t = spared_after time nearly d in
+      let searched : end.state.paths.current.kept.mtud ≡ probe_sent time n a.state.paths.current.kept.mtud =
+      spared_searched time nearly d ∙ probe_searched m time size quiet c ∙ ap (λ (p : Paths t.C). probe_sent time n p.current.kept.mtud) (probe_paths m time quiet b a) in
+      let is : is_probe n end.state.paths.current.kept.mtud ≡ true = ap (is_probe n) searched ∙ due_searched time size n a.state may.due in
+      let seals : seals_probe end.state (did.Sealed «Data» n (epoch_in c.state.keys form.OneRtt) (is_early form.OneRtt) (probe_frames c.state size)) ≡ true = is in
+      holds_spared (Does (seals_probe end.state)) (λ x h. h) (λ x y z g h some. h (g some)) (λ x r y h. does_move (seals_probe end.state) x y) time nearly d
+      (ap (list_any (seals_probe end.state)) (probe_deeds m time size quiet c) ∙ any_between (seals_probe end.state) c.did _ _ seals)
+
+  keeps_window : (m : Meaning t) (time : ℕ) (e : Ending) (a : At t) (g : Going t) → Keeps m a g → MayEnd m time e g.now.state g.batch → KeepsWindow m (ending_after m time e g.batch g.now).did a.state (ending_after m time e g.batch g.now).state
+  unfolding KeepsWindow ending_after
+  keeps_window m time (Probed quiet size) a g h ends = λ more. inr (inr (probe_seals m time size quiet g.batch g.now ends.0))
+  keeps_window m time Went a g h ends = unprobed_window m time Went a g tt h ends
+  keeps_window m time Held a g h ends = unprobed_window m time Held a g tt h ends
+  keeps_window m time (Hushed quiet) a g h ends = unprobed_window m time (Hushed quiet) a g tt h ends
+  keeps_window m time (Died why) a g h ends = unprobed_window m time (Died why) a g tt h ends
 
   transmit_window : (m : Meaning t) (time asked : ℕ) (choice : Choice) (a : At t) → MayTransmit m time asked choice a → KeepsWindow m (transmit_after m time asked choice a).did a.state (transmit_after m time asked choice a).state
   unfolding MayTransmit transmit_after gone_after
@@ -529,15 +620,35 @@ module _ {t : Types} where
   began_exempt s time [] = refl
   began_exempt s time (d ∷ ds) = λ i. began_one s time d i || began_exempt s time ds i
 
+  -- whether a deed is that of a probe is told by the paths
+  searched_one : (s s' : View t) (d : Did) → s.paths ≡ s'.paths → seals_probe s d ≡ seals_probe s' d
+  searched_one s s' (did.Sealed Initial n epoch early fs) h = refl
+  searched_one s s' (did.Sealed Handshake n epoch early fs) h = refl
+  searched_one s s' (did.Sealed Data n epoch early fs) h = ap (λ (p : Paths t.C). is_probe n p.current.kept.mtud) h
+  searched_one s s' (did.Piece space number v) h = refl
+  searched_one s s' (did.Gave layer body) h = refl
+  searched_one s s' (did.Rose life) h = refl
+  searched_one s s' (did.Lost why) h = refl
+  searched_one s s' (did.Quiet why) h = refl
+
+  searched_same : (s s' : View t) (ds : List Did) → s.paths ≡ s'.paths → list_any (seals_probe s) ds ≡ list_any (seals_probe s') ds
+  searched_same s s' [] h = refl
+  searched_same s s' (d ∷ ds) h = λ i. searched_one s s' d h i || searched_same s s' ds h i
+
+  told_window : (m : Meaning t) (s s' : View t) (ds : List Did) (b : At t) (f : Did → Bool) → in_flight s' ≡ in_flight b.state → ds ≡ b.did → s'.paths ≡ b.state.paths → list_any f b.did ≡ list_any (is_exempt s) b.did →
+      (in_flight b.state < window_of m s) ⊎ ((list_any f b.did ≡ true) ⊎ (list_any (seals_probe b.state) b.did ≡ true)) → (in_flight s' < window_of m s) ⊎ ((list_any (is_exempt s) ds ≡ true) ⊎ (list_any (seals_probe s') ds ≡ true))
+  told_window m s s' ds b f same deeds paths exempt (inl under) = inl (omega (arith, same, under))
+  told_window m s s' ds b f same deeds paths exempt (inr (inl some)) = inr (inl (ap (list_any (is_exempt s)) deeds ∙ sym exempt ∙ some))
+  told_window m s s' ds b f same deeds paths exempt (inr (inr seals)) = inr (inr (ap (list_any (seals_probe s')) deeds ∙ searched_same s' b.state b.did paths ∙ seals))
+
   step_window : (m : Meaning t) (k : ℕ) (s : View t) (i : Input) (x : Step) (s' : View t) → IsStep m k s i x s' → KeepsWindow m x.did s s'
   unfolding KeepsWindow called began step_after reported state_move lower_move paths_move events_told streams_stepped
   step_window m k s i x s' h = λ more.
       let a : At t = began s (time_of i) in
       let b : At t = input_after m i h.choice a in
       let same : in_flight s' ≡ in_flight b.state = ap (λ (l : Lower t.S). all_bytes l.recovery) h.lower in
-      let behind : (in_flight b.state < window_of m s) ⊎ (list_any (is_exempt a.state) b.did ≡ true) = input_window m i h.choice a h.allowed (subst (λ (n : ℕ). in_flight s < n) same more) in
-      subst (λ (ds : List Did). (in_flight s' < window_of m s) ⊎ (list_any (is_exempt s) ds ≡ true)) (sym h.deeds)
-      (subst (λ (n : ℕ). (n < window_of m s) ⊎ (list_any (is_exempt s) b.did ≡ true)) (sym same) (subst (λ (e : Bool). (in_flight b.state < window_of m s) ⊎ (e ≡ true)) (began_exempt s (time_of i) b.did) behind))
+      let behind = input_window m i h.choice a h.allowed (subst (λ (n : ℕ). in_flight s < n) same more) in
+      told_window m s s' x.did b (is_exempt a.state) same h.deeds h.paths (began_exempt s (time_of i) b.did) behind
 
   pub run_window : (m : Meaning t) (k : ℕ) (s : View t) (is : List Input) (xs : List Step) (s' : View t) → Run m k s is xs s' → EachKeepsWindow m k s is xs s'
   unfolding Run EachKeepsWindow

@@ -1,6 +1,6 @@
 -- Laws over whole runs, said of which connection ids are used, told and retired (RFC 9000, sections 5.1, 19.15 and 19.16), in words of the
 -- trace.
-use Rattle.std.specs.Prelude.{◌≡◌, ℕ, ◌<◌, ◌≤◌, true, List, [], ◌∷◌, ◌++◌, Option, None, Some, Contains}
+use Rattle.std.specs.Prelude.{◌≡◌, ℕ, ◌<◌, ◌≤◌, true, List, [], ◌∷◌, ◌++◌, length, Option, None, Some, Contains}
 use Rattle.qc_base.specs.declared.ids.IssuedCid.{IssuedCid}
 use Rattle.qc_base.specs.declared.side.SpaceId.{SpaceId}
 use Rattle.qc_cids.specs.Cids.{first_ids}
@@ -66,10 +66,11 @@ module _ {t : Types} where
     pub retired : AllNameBelow number (frames_sealed ds)
 
   -- The ids are those of a connection that was just made: of the peer's the one that packets carry is known, which the peer chose, if it did,
-  -- and not its parameters; this end has no keys but Initial ones, and no packet is in flight.
+  -- and not its parameters; this end's are as long as its first one; it has no keys but Initial ones, and no packet is in flight.
   pub record HasNewIds (s : View t) : Type 0 where
     pub local : LocalCids
     pub ids : s.lower.ids ≡ first_ids s.paths.current.remote_cid local
+    pub size : local.cid_len ≡ length s.setup.fixed.local_cid
     pub chosen : (cid : List ℕ) → s.paths.peer_cid ≡ Some cid → cid ≡ s.paths.current.remote_cid
     pub parameters : s.setup.peer ≡ None
     pub handshake : s.keys.handshake ≡ None
@@ -107,3 +108,15 @@ EachIssued before (call ∷ calls) = AreIssued (issued_in (before ++ call ∷ []
 -- token
 unfoldable pub TellsIssued : List Input → List TraceStep → Type 0
 TellsIssued is xs = EachIssued [] (with_steps is xs)
+
+-- each of these ids has so many bytes
+abbrev pub HaveLength : (size : ℕ) → List IssuedCid → Type 0
+HaveLength size [] = Unit {0}
+HaveLength size (c ∷ cs) = (length c.id ≡ size) × HaveLength size cs
+
+module _ {t : Types} where
+  -- From one view to another this end has the same first id, and each id that an input gave is as long as that one, by whose length the headers of
+  -- 1-RTT packets are cut, which don't tell it (RFC 9000, sections 5.1 and 17.3.1).
+  pub record KeepsLength (is : List Input) (xs : List TraceStep) (s s' : View t) : Type 0 where
+    pub given : HaveLength (length s.setup.fixed.local_cid) (issued_in (with_steps is xs))
+    pub first : s'.setup.fixed.local_cid ≡ s.setup.fixed.local_cid

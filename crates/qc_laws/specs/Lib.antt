@@ -1,4 +1,5 @@
 pub mod AckLaws
+pub mod AckedLaws
 pub mod CidLaws
 pub mod CryptoLaws
 pub mod DatagramLaws
@@ -13,6 +14,7 @@ pub mod PieceLaws
 pub mod PostLaws
 pub mod ReadLaws
 pub mod RecoveryLaws
+pub mod SealLaws
 pub mod StreamLaws
 pub mod StreamsLaws
 pub mod TimerLaws

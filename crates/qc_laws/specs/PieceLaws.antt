@@ -1,5 +1,5 @@
 -- What is told of a packet that came, and what its frames give to the layers (RFC 9000, sections 12.3, 12.4, 13.1 and 19.6).
-use Rattle.std.specs.Prelude.{◌≡◌, ◌⊎◌, ℕ, Bool, if◌then◌else◌, List, [], ◌∷◌, ◌++◌, length, Option, Some, None, Result, Ok, Err}
+use Rattle.std.specs.Prelude.{◌≡◌, ◌⊎◌, ℕ, ◌+◌, Bool, if◌then◌else◌, List, [], ◌∷◌, ◌++◌, length, Option, Some, None, Result, Ok, Err}
 use Rattle.std.specs.List.{list_any}
 use Rattle.qc_assembler.specs.Assembly.{Assembly, inserted}
 use Rattle.qc_base.specs.declared.side.SpaceId.{SpaceId}
@@ -17,8 +17,11 @@ use Rattle.qc_state.specs.declared.deeds.Did.TheVariants as did
 use Rattle.qc_state.specs.declared.deeds.Layer.TheVariants as layer
 use Rattle.qc_state.specs.declared.deeds.Verdict.{Verdict}
 use Rattle.qc_state.specs.declared.deeds.Verdict.TheVariants as verdict
+use Rattle.qc_state.specs.declared.input.Input.{Input}
+use Rattle.qc_state.specs.declared.input.Input.TheVariants as input
 use Rattle.qc_state.specs.declared.opening.Opening.{Opening}
 use Rattle.qc_state.specs.declared.opening.Opening.TheVariants.{Unreadable, Unopened, Reserved, Opened}
+use Rattle.qc_state.specs.declared.trace.Step.{Step}
 use Rattle.qc_state.specs.Life.{is_over}
 use Rattle.qc_state.specs.Ids.{insert_stop, retire_stop, switches_for}
 use Rattle.qc_state.specs.Lower.{handed_stop, ready_bytes, stream_of}
@@ -27,6 +30,7 @@ use Rattle.qc_state.specs.Numbers.{next_number}
 use Rattle.qc_state.specs.Opening.{opening_of}
 use Rattle.qc_state.specs.Receiving.{accepted_after, crypto_stop, cut_of, fixed_after, is_eliciting_item, piece_after, pieces_after, stop_in}
 use Rattle.qc_state.specs.Recovering.{settled_by}
+use Rattle.qc_state.specs.Run.{IsStep, began}
 use Rattle.qc_state.specs.Types.{Types, Meaning}
 use Rattle.qc_state.specs.Verdicts.{verdict_of}
 use Rattle.qc_state.specs.View.{View, At, at}
@@ -216,3 +220,14 @@ module _ {t : Types} where
     pub begins : (start ≡ a) ⊎ ((token : List ℕ) × (start ≡ move_to (Expect token) a))
     pub told : TellsPieces m coming items start
     pub ends : b.did ≡ (pieces_after m coming items start).did
+
+  -- What a step tells of packets that came, and of what the layers are given: over a datagram what that does, from where the call began; over
+  -- any other input nothing.
+  abbrev pub TellsInput : Meaning t → View t → Input → Step → View t → Type 0
+  TellsInput m s (input.Datagram time remote ecn bytes) x s' = TellsDatagram m (record { time = time; remote = remote; mark = ecn }) bytes (began s time) (at s' x.did)
+  TellsInput m s i x s' = (pieces_in x.did ≡ []) × (given_in x.did ≡ [])
+
+  -- so does each step of a run
+  unfoldable pub EachTellsPieces : Meaning t → ℕ → View t → List Input → List Step → View t → Type 0
+  EachTellsPieces m k s (i ∷ is) (x ∷ xs) s' = (mid : View t) × IsStep m k s i x mid × TellsInput m s i x mid × EachTellsPieces m (k + 1) mid is xs s'
+  EachTellsPieces m k s is xs s' = Unit {0}

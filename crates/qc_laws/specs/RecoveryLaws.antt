@@ -1,27 +1,28 @@
 -- Loss recovery as the fold of its own steps: over moves, and over whole runs (RFC 9002).
-use Rattle.std.specs.Prelude.{◌≡◌, ◌⊎◌, ℕ, true, if◌then◌else◌, List, [], ◌∷◌, ◌++◌, IsPermutation}
+use Rattle.std.specs.Prelude.{◌≡◌, ◌⊎◌, ℕ, min, true, if◌then◌else◌, List, [], ◌∷◌, ◌++◌, IsPermutation}
 use Rattle.std.specs.List.{list_any}
-use Rattle.qc_base.specs.declared.range_set.NumberRange.{NumberRange}
 use Rattle.qc_base.specs.declared.side.SpaceId.{SpaceId}
-use Rattle.qc_flight.specs.Packets.{Entry}
+use Rattle.qc_flight.specs.Packets.{Entry, has_number}
 use Rattle.qc_flight.specs.declared.sent.SentPacket.{SentPacket}
-use Rattle.qc_frame.specs.Frame.{FrameValue}
+use Rattle.qc_frame.specs.AckRanges.{Acknowledges}
+use Rattle.qc_frame.specs.Frame.{AckValue, FrameValue}
 use Rattle.qc_frame.specs.FrameSpelling.{elicits}
+use Rattle.qc_path.specs.Mtu.{peer_known, probe_sent}
 use Rattle.qc_path.specs.Pacing.{Bucket, packet_paced}
 use Rattle.qc_path.specs.declared.controller.Controller.{Ghosts as Control}
 use Rattle.qc_recovery.specs.Calls.{dropped_after}
+use Rattle.qc_recovery.specs.Frames.{ranges_up_of, values_of}
 use Rattle.qc_recovery.specs.Runs.{in_space}
 use Rattle.qc_recovery.specs.Steps.{After, FiredAfter, ack_after, path_dropped, sent_after, timeout_after}
 use Rattle.qc_recovery.specs.Steps as recovery
-use Rattle.qc_recovery.specs.declared.calls.AckValues.{AckValues}
 use Rattle.qc_recovery.specs.declared.calls.Around.{Around}
 use Rattle.qc_recovery.specs.declared.path.PathData.{PathData}
 use Rattle.qc_recovery.specs.declared.recovery.Recovery.{Recovery}
 use Rattle.qc_state.specs.declared.deeds.Did.{Did}
 use Rattle.qc_state.specs.declared.deeds.Did.TheVariants as did
-use Rattle.qc_state.specs.Flight.{counts_in_flight, flown_packet, kept_frames}
+use Rattle.qc_state.specs.Flight.{counts_in_flight, flown_packet, kept_frames, metas_of}
 use Rattle.qc_state.specs.Forms.{number_space}
-use Rattle.qc_state.specs.Moves.{Move, Ack, Finish, Fire, Forget, Seal, Spend, is_close}
+use Rattle.qc_state.specs.Moves.{Move, Ack, Finish, Fire, Forget, Learn, Probe, Seal, Spend, is_close}
 use Rattle.qc_state.specs.Sending.{path_rate}
 use Rattle.qc_state.specs.Types.{Types, Meaning}
 use Rattle.qc_state.specs.View.{View}
@@ -34,7 +35,8 @@ pub record Kept (C : Type 0) : Type 0 where
   pub path : PathData C
 
 -- a step of recovery: a packet is in flight from then on, an ACK came, the loss timer fired, the keys of a space were dropped, the pacer
--- spent tokens, or the controller was told what was sent; of an ACK and of the timer, of the pacer and of the controller what they leave
+-- spent tokens, the controller was told what was sent, the peer's greatest datagrams are known, or a probe of the path's size was sent; of an ACK and
+-- of the timer, of the pacer and of the controller what they leave
 pub data RecoveryStep (C : Type 0) : Type 0 where
   Sent : (space : SpaceId) → (number : ℕ) → (packet : SentPacket) → RecoveryStep C
   Settled : (space : SpaceId) → (after : After C) → RecoveryStep C
@@ -42,6 +44,8 @@ pub data RecoveryStep (C : Type 0) : Type 0 where
   Dropped : (space : SpaceId) → RecoveryStep C
   Spent : (tokens : Bucket) → RecoveryStep C
   Told : (control : C) → RecoveryStep C
+  Capped : (size : ℕ) → RecoveryStep C
+  Probed : (time number : ℕ) → RecoveryStep C
 
 module _ {C : Type 0} where
   -- what a step leaves
@@ -52,21 +56,24 @@ module _ {C : Type 0} where
   step_after (Dropped space) k = record { recovery = dropped_after space k.recovery; path = path_dropped space k.path }
   step_after (Spent tokens) k = record k { path = record k.path { pacing = tokens } }
   step_after (Told control) k = record k { path = record k.path { congestion = control } }
+  step_after (Capped size) k = record k { path = record k.path { mtud = peer_known size k.path.mtud } }
+  step_after (Probed time number) k = record k { path = record k.path { mtud = probe_sent time number k.path.mtud } }
 
   -- what steps leave, one after the other
   abbrev pub steps_after : List (RecoveryStep C) → Kept C → Kept C
   steps_after [] k = k
   steps_after (x ∷ xs) k = steps_after xs (step_after x k)
 
-  -- an ACK leaves what recovery makes of it (RFC 9002, appendix A.7)
+  -- an ACK leaves what recovery makes of it (RFC 9002, appendix A.7), and each packet that it shows to be acknowledged has a number that it
+  -- acknowledges (RFC 9000, section 19.3)
   pub record IsSettling (m : Control C) (space : SpaceId) (after : After C) (k : Kept C) : Type 0 where
     pub now : ℕ
     pub next : ℕ
     pub began : ℕ
-    pub ack : AckValues
-    pub ranges : List NumberRange
+    pub ack : AckValue
     pub around : Around
-    pub is : after ≡ ack_after m now space next began ack ranges around k.recovery k.path
+    pub is : after ≡ ack_after m now space next began (values_of ack) (ranges_up_of ack) around k.recovery k.path
+    pub named : (n : ℕ) → has_number n after.acked ≡ true → Acknowledges ack n
 
   -- the loss timer leaves what recovery makes of it (RFC 9002, appendix A.9)
   pub record IsFiring (m : Control C) (after : FiredAfter C) (k : Kept C) : Type 0 where
@@ -95,6 +102,8 @@ module _ {C : Type 0} where
   MayStep m (Dropped space) k = Unit {0}
   MayStep m (Spent tokens) k = IsSpent m tokens k
   MayStep m (Told control) k = IsToldSent m control k
+  MayStep m (Capped size) k = Unit {0}
+  MayStep m (Probed time number) k = Unit {0}
 
   -- each step may be made as its turn comes
   abbrev pub AllMay : Control C → List (RecoveryStep C) → Kept C → Type 0
@@ -110,6 +119,8 @@ module _ {C : Type 0} where
   sent_in id (Dropped space ∷ xs) = sent_in id xs
   sent_in id (Spent tokens ∷ xs) = sent_in id xs
   sent_in id (Told control ∷ xs) = sent_in id xs
+  sent_in id (Capped size ∷ xs) = sent_in id xs
+  sent_in id (Probed time number ∷ xs) = sent_in id xs
 
 module _ {C : Type 0} where
   -- the packets of a space that steps acknowledged, in order
@@ -121,6 +132,8 @@ module _ {C : Type 0} where
   acked_in id (Dropped space ∷ xs) = acked_in id xs
   acked_in id (Spent tokens ∷ xs) = acked_in id xs
   acked_in id (Told control ∷ xs) = acked_in id xs
+  acked_in id (Capped size ∷ xs) = acked_in id xs
+  acked_in id (Probed time number ∷ xs) = acked_in id xs
 
 -- ---- which steps a move is
 
@@ -137,14 +150,18 @@ module _ {t : Types} where
   steps_of (Fire after) s = Fired after ∷ []
   steps_of (Spend tokens) s = Spent tokens ∷ []
   steps_of (Finish bytes control) s = Told control ∷ []
+  steps_of (Learn parameters) s = Capped (min parameters.max_udp_payload_size 65527) ∷ []
+  steps_of (Probe time number bytes quiet) s = Probed time number ∷ []
   steps_of _ s = []
 
 -- ---- what is sealed is in flight
 
 -- what is kept in flight of a packet with these frames: those that are sent again where it is lost, and which numbers an ACK
--- acknowledged; whether it counts as in flight, and whether it elicits an ACK (RFC 9002, section 2)
+-- acknowledged; of its STREAM frames, which bytes they hold; whether it counts as in flight, and whether it elicits an ACK (RFC 9002,
+-- section 2)
 pub record IsKeptOf (fs : List FrameValue) (packet : SentPacket) : Type 0 where
   pub frames : packet.frames ≡ kept_frames fs
+  pub streams : packet.stream_frames ≡ metas_of fs
   pub counted : packet.counted ≡ counts_in_flight fs
   pub eliciting : packet.ack_eliciting ≡ list_any elicits fs
 

@@ -1,6 +1,8 @@
 -- Laws over whole runs, said of the congestion window (RFC 9002, section 7).
 use Rattle.std.specs.Prelude.{◌≡◌, ◌⊎◌, ℕ, ◌+◌, ◌<◌, Bool, true, false, not, List, ◌∷◌}
 use Rattle.std.specs.List.{list_any}
+use Rattle.qc_base.specs.declared.side.SpaceId.TheVariants.{«Data»}
+use Rattle.qc_path.specs.Mtu.{is_probe}
 use Rattle.qc_recovery.specs.Steps.{all_bytes}
 use Rattle.qc_state.specs.declared.deeds.Did.{Did}
 use Rattle.qc_state.specs.declared.deeds.Did.TheVariants as did
@@ -26,10 +28,15 @@ module _ {t : Types} where
   is_exempt s (did.Sealed id number epoch early fs) = not (is_eager s id)
   is_exempt s _ = false
 
+  -- a deed seals the probe of the path's size that the search waits for from then on
+  abbrev pub seals_probe : View t → Did → Bool
+  seals_probe s' (did.Sealed «Data» number epoch early fs) = is_probe number s'.paths.current.kept.mtud
+  seals_probe s' _ = false
+
   -- Where more bytes are in flight behind an input than before it, they are fewer than the window as it began, unless it sealed such a packet
-  -- (RFC 9002, section 7: no packet may be sent that would make them more than the window).
+  -- (RFC 9002, section 7: no packet may be sent that would make them more than the window), or a probe of the path's size, which goes alone.
   unfoldable pub KeepsWindow : Meaning t → List Did → View t → View t → Type 0
-  KeepsWindow m ds s s' = in_flight s < in_flight s' → (in_flight s' < window_of m s) ⊎ (list_any (is_exempt s) ds ≡ true)
+  KeepsWindow m ds s s' = in_flight s < in_flight s' → (in_flight s' < window_of m s) ⊎ ((list_any (is_exempt s) ds ≡ true) ⊎ (list_any (seals_probe s') ds ≡ true))
 
   -- so does each step of a run
   unfoldable pub EachKeepsWindow : Meaning t → ℕ → View t → List Input → List Step → View t → Type 0

@@ -7,7 +7,8 @@ ghost use Rattle.qc_header.specs.HeaderReading.{piece_at};
 ghost use Rattle.qc_header.specs.Piece.{Piece};
 ghost use Rattle.qc_path.specs.Arrived.{Remembers, Window, is_among};
 ghost use Rattle.qc_laws.specs.AckLaws.{AckHolds, EachHoldsAck};
-ghost use Rattle.qc_laws.specs.CidLaws.{HasNewIds, TellsIssued, UsesPeers};
+ghost use Rattle.qc_laws.specs.AckedLaws.{AcksFrames};
+ghost use Rattle.qc_laws.specs.CidLaws.{HasNewIds, KeepsLength, TellsIssued, UsesPeers};
 ghost use Rattle.qc_laws.specs.CryptoLaws.{KeepsBytes};
 ghost use Rattle.qc_laws.specs.DatagramLaws.{DatagramHolds};
 ghost use Rattle.qc_laws.specs.EndLaws.{Ends};
@@ -25,11 +26,13 @@ ghost use Rattle.qc_state.specs.Receiving.{datagram_after, event_after, first_pa
 ghost use Rattle.qc_laws.specs.PostLaws.{FoldsPosts, HasNewDatagrams, SealsSent, TakesTrace};
 ghost use Rattle.qc_laws.specs.ReadLaws.{HasNewStreams, ReadsTrace};
 ghost use Rattle.qc_laws.specs.RecoveryLaws.{EachSettlesOnce, Recovers};
+ghost use Rattle.qc_laws.specs.SealLaws.{EachSealsAnswer, KeepsFields, SealsBetween};
 ghost use Rattle.qc_base.specs.declared.side.Side.{Side};
 ghost use Rattle.qc_recovery.specs.TransportValues.{TransportValues};
 ghost use Rattle.qc_state.specs.First.{first_streams};
 ghost use Rattle.qc_streams.specs.Within.{StaysWithin};
 ghost use Rattle.qc_state.specs.Run.{IsStep, Run, began, placed_behind};
+ghost use Rattle.qc_state.specs.Sending.{Transmits};
 ghost use Rattle.qc_state.specs.Setup.{is_first_awaited};
 ghost use Rattle.qc_laws.specs.StreamLaws.{GivesStream};
 ghost use Rattle.qc_laws.specs.StreamsLaws.{FoldsStreams};
@@ -44,6 +47,7 @@ ghost use Rattle.qc_state.specs.declared.input.Input.{Input};
 ghost use Rattle.qc_state.specs.declared.input.Input.TheVariants as input;
 ghost use Rattle.qc_state.specs.declared.opening.Opening.TheVariants.{Opened};
 ghost use Rattle.qc_state.specs.declared.trace.Step.{Step};
+ghost use Rattle.qc_state.specs.declared.transmit.Transmit.{Transmit};
 
 use qc_state::suite::{Means, Suite};
 
@@ -103,6 +107,12 @@ pub fn issued_ids_are_told<U: Suite>()
     ensures { (s last : View ⟦<U as Means>⟧.types) (k : ℕ) (is : List Input) (xs : List Step) → Run ⟦<U as Means>⟧.meaning k s is xs last → HasNewIds s → TellsIssued is xs }
 {}
 
+/// A law, which runs no code. Over a run from new ids on, each id of this end that an input gives is as long as its first one, by whose length
+/// the headers of 1-RTT packets are cut from first to last (RFC 9000, 17.3.1).
+pub fn ids_have_one_length<U: Suite>()
+    ensures { (s last : View ⟦<U as Means>⟧.types) (k : ℕ) (is : List Input) (xs : List Step) → Run ⟦<U as Means>⟧.meaning k s is xs last → HasNewIds s → KeepsLength is xs s last }
+{}
+
 /// A law, which runs no code. Over a run no key seals more packets than it may (RFC 9001, 6.6): each packet that is sealed under
 /// it counts, and the count stays within the limit. Of 1-RTT keys each epoch has a count of its own.
 pub fn keys_hold<U: Suite>()
@@ -140,6 +150,14 @@ pub fn recovery_is_folded<U: Suite>()
 /// steps of the streams holds of a run (RFC 9000, 2 to 4).
 pub fn streams_are_folded<U: Suite>()
     ensures { (s last : View ⟦<U as Means>⟧.types) (k : ℕ) (is : List Input) (xs : List Step) → Run ⟦<U as Means>⟧.meaning k s is xs last → FoldsStreams is xs s last }
+{}
+
+/// A law, which runs no code. Over a run the frames of streams that are acknowledged are those in the packets that loss recovery acknowledged,
+/// in order, none left out and none made up: the streams are told of no other. Such a packet was sealed with these frames, where it wasn't in
+/// flight at the start, and an ACK acknowledges its number. So a stream is finished only by acknowledgements of packets that held what was
+/// written on it (RFC 9000, 3.1 and 13.3).
+pub fn frames_are_acknowledged<U: Suite>()
+    ensures { (s last : View ⟦<U as Means>⟧.types) (k : ℕ) (is : List Input) (xs : List Step) → Run ⟦<U as Means>⟧.meaning k s is xs last → Ends s → AcksFrames ⟦<U as Means>⟧.meaning is xs s last }
 {}
 
 /// A law, which runs no code. Over a run from new streams on, the bytes that the answers give to reads of a stream, one behind the other,
@@ -205,6 +223,19 @@ pub fn loss_timer_stands<U: Suite>()
 /// acknowledgement, or where a probe was due (RFC 9002, 7 and 7.5).
 pub fn window_is_kept<U: Suite>()
     ensures { (s last : View ⟦<U as Means>⟧.types) (k : ℕ) (is : List Input) (xs : List Step) → Run ⟦<U as Means>⟧.meaning k s is xs last → EachKeepsWindow ⟦<U as Means>⟧.meaning k s is xs last }
+{}
+
+/// A law, which runs no code. The bytes that a transmit gives, cut at multiples of their segment size, are datagrams, each of which is the
+/// bytes of its packets, with nothing between or behind them (RFC 9000, 12.2); and these are the packets that its deeds tell as sealed, in
+/// their order, each with the number and the frames of its deed. They are sealed under the keys of the view as the transmit begins: the
+/// epoch that a deed tells is that of its packet's key, and the key phase of a 1-RTT packet is the epoch's parity (RFC 9001, 5.3, 5.4 and 6).
+/// Where what this end puts into fields has room there, the receiver can tell each packet apart, and each frame fits its fields; and a short
+/// header stands last in its datagram. So it is with each transmit of a run (`run`), over which what is fixed of a connection stays, and
+/// CRYPTO streams have room in their fields where they had it before (`fields`).
+pub fn datagrams_are_sealed<U: Suite>()
+    ensures transmit { (time asked : ℕ) (a b : At ⟦<U as Means>⟧.types) (sent : Option Transmit) (bytes : List ℕ) → Transmits ⟦<U as Means>⟧.meaning time asked a b sent bytes → SealsBetween ⟦<U as Means>⟧.meaning a.state a b sent bytes }
+    ensures run { (s last : View ⟦<U as Means>⟧.types) (k : ℕ) (is : List Input) (xs : List Step) → Run ⟦<U as Means>⟧.meaning k s is xs last → EachSealsAnswer ⟦<U as Means>⟧.meaning k s is xs last }
+    ensures fields { (s last : View ⟦<U as Means>⟧.types) (k : ℕ) (is : List Input) (xs : List Step) → Run ⟦<U as Means>⟧.meaning k s is xs last → KeepsFields s last }
 {}
 
 /// A law, which runs no code. Over a run an ACK of 1-RTT packets is held back for 25 ms at most: its timer is set with the packet that asks

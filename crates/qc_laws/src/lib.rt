@@ -4,11 +4,12 @@
 mod laws;
 
 pub use laws::{
-    acks_were_accepted, bytes_are_kept, datagrams_alone_tell, datagrams_keep, datagrams_tell,
-    ends_hold, events_are_datagrams, events_told, first_packets_are_datagrams, folds_ids,
-    harmless_bytes, held_acks_wait, ids_hold, initial_is_left, issued_ids_are_told, keys_hold,
-    known_ids_are_used, loss_timer_stands, marks_are_told, numbers_count_once, packets_tell,
-    paths_hold, posts_are_folded, reads_are_what_came, recovery_is_folded, runs_join,
+    acks_were_accepted, bytes_are_kept, datagrams_alone_tell, datagrams_are_sealed, datagrams_keep,
+    datagrams_tell, ends_hold, events_are_datagrams, events_told, first_packets_are_datagrams,
+    folds_ids, frames_are_acknowledged, harmless_bytes, held_acks_wait, ids_have_one_length,
+    ids_hold, initial_is_left, issued_ids_are_told, keys_hold, known_ids_are_used,
+    loss_timer_stands, marks_are_told, numbers_count_once, packets_tell, paths_hold,
+    posts_are_folded, reads_are_what_came, recovery_is_folded, runs_join,
     sealed_datagrams_were_sent, seals_what_was_written, session_is_given_its_stream, steps_tell,
     streams_are_folded, streams_stay_within, taken_datagrams_came, window_is_kept,
 };

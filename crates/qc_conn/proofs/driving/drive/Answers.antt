@@ -6,11 +6,13 @@ use Rattle.qc_laws.proofs.CidUses.{run_uses}
 use Rattle.qc_laws.proofs.CryptoKept.{run_keeps_bytes}
 use Rattle.qc_laws.proofs.EndsHold.{run_ends}
 use Rattle.qc_laws.proofs.EventsTold.{none_tells_done, none_tells_once, ran_tells_done, ran_tells_once, run_stays_done, run_tells_done, run_tells_once}
+use Rattle.qc_laws.proofs.FramesAcked.{run_acks_frames}
 use Rattle.qc_laws.proofs.HarmlessBytes.{run_harmless}
 use Rattle.qc_laws.proofs.IdsFold.{run_folds_ids}
 use Rattle.qc_laws.proofs.IdsHold.{run_ids}
 use Rattle.qc_laws.proofs.InitialLeft.{run_leaves}
 use Rattle.qc_laws.proofs.KeysHold.{run_keys_hold}
+use Rattle.qc_laws.proofs.LengthsHold.{run_keeps_length}
 use Rattle.qc_laws.proofs.MarksTold.{none_each_told, ran_each_told, run_each_told}
 use Rattle.qc_laws.proofs.PathsHold.{path_run}
 use Rattle.qc_laws.proofs.PostsFold.{run_posts}
@@ -19,7 +21,9 @@ use Rattle.qc_laws.proofs.PostsTaken.{run_takes}
 use Rattle.qc_laws.proofs.ReadsHold.{run_reads, run_within}
 use Rattle.qc_laws.proofs.WritesHold.{run_writes}
 use Rattle.qc_laws.proofs.Recovers.{run_recovers, run_settles_once}
+use Rattle.qc_laws.proofs.SealRuns.{run_seals_answers}
 use Rattle.qc_laws.proofs.Steps.{ran_none}
+use Rattle.qc_laws.proofs.StepsTell.{run_each_tells}
 use Rattle.qc_laws.proofs.StreamHolds.{run_gives}
 use Rattle.qc_laws.proofs.StreamsFold.{run_folds}
 use Rattle.qc_laws.proofs.TimerHolds.{run_keeps_timer}
@@ -116,6 +120,9 @@ returns-clause-reason g c = of_trace _ _ _ _ c.drive_all.result _ c.drive_all.en
 pub returns-clause-reason_part : goal.returns-clause-reason_part
 returns-clause-reason_part g c = of_part _ _ _ c.drive_all.result _ c.drive_all.ensures.part (λ trace run. ran_loses_once _ 0 _ _ trace run)
 
+pub returns-clause-tells : goal.returns-clause-tells
+returns-clause-tells g c = of_trace _ _ _ _ c.drive_all.result _ c.drive_all.ensures.run (λ trace run. run_each_tells _ 0 _ _ trace _ run)
+
 pub returns-clause-told : goal.returns-clause-told
 returns-clause-told g c = λ waits. of_trace _ _ _ _ c.drive_all.result _ c.drive_all.ensures.run (λ trace run. run_tells_done _ 0 _ _ trace _ run waits)
 
@@ -136,6 +143,9 @@ returns-clause-timer g c = λ ends. of_trace _ _ _ _ c.drive_all.result _ c.driv
 
 pub returns-clause-settles : goal.returns-clause-settles
 returns-clause-settles g c = λ ends. of_trace _ _ _ _ c.drive_all.result _ c.drive_all.ensures.run (λ trace run. run_settles_once _ 0 _ _ trace _ run ends)
+
+pub returns-clause-datagrams : goal.returns-clause-datagrams
+returns-clause-datagrams g c = of_trace _ _ _ _ c.drive_all.result _ c.drive_all.ensures.run (λ trace run. run_seals_answers _ g.met.U.Session.PacketKey.PacketKey.sealed_length 0 _ _ trace _ run)
 
 pub returns-clause-held : goal.returns-clause-held
 returns-clause-held g c = λ holds. of_trace _ _ _ _ c.drive_all.result _ c.drive_all.ensures.run (λ trace run. run_each_holds _ 0 _ _ trace _ run holds)
@@ -164,6 +174,9 @@ returns-clause-streams g c = λ id. of_trace _ _ _ _ c.drive_all.result _ c.driv
 pub returns-clause-folded : goal.returns-clause-folded
 returns-clause-folded g c = of_trace _ _ _ _ c.drive_all.result _ c.drive_all.ensures.run (λ trace run. run_folds _ 0 _ _ trace _ run)
 
+pub returns-clause-frames : goal.returns-clause-frames
+returns-clause-frames g c = λ ends. of_trace _ _ _ _ c.drive_all.result _ c.drive_all.ensures.run (λ trace run. run_acks_frames _ 0 _ _ trace _ run ends)
+
 pub returns-clause-reads : goal.returns-clause-reads
 returns-clause-reads g c = λ new. of_trace _ _ _ _ c.drive_all.result _ c.drive_all.ensures.run (λ trace run. run_reads _ 0 _ _ trace _ run new)
 
@@ -190,6 +203,9 @@ returns-clause-uses g c = λ new. of_trace _ _ _ _ c.drive_all.result _ c.drive_
 
 pub returns-clause-issues : goal.returns-clause-issues
 returns-clause-issues g c = λ new. of_trace _ _ _ _ c.drive_all.result _ c.drive_all.ensures.run (λ trace run. run_tells_issued _ 0 _ _ trace _ run new)
+
+pub returns-clause-lengths : goal.returns-clause-lengths
+returns-clause-lengths g c = λ new. of_trace _ _ _ _ c.drive_all.result _ c.drive_all.ensures.run (λ trace run. run_keeps_length _ 0 _ _ trace _ run new)
 
 -- the empty trace is a run over no inputs
 pub returns-then-is_failed-clause-part : goal.returns-then-is_failed-clause-part

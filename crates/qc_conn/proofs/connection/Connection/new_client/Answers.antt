@@ -1,8 +1,8 @@
-use Rattle.qc_conn.proofs.NewEnds.{first_ends}
+use Rattle.qc_conn.proofs.NewEnds.{first_ends, first_told}
 use Rattle.qc_conn.proofs.Marks.{new_mark}
 use Rattle.qc_conn.proofs.NewLaws.{first_acks, first_kept, first_new, first_streams, first_timer, first_unposted, first_used}
 use Rattle.qc_conn.proofs.NewIds.{first_new_ids}
-use Rattle.qc_conn.proofs.RunsPlain.{first_plain, first_told}
+use Rattle.qc_conn.proofs.RunsPlain.{first_plain}
 use Rattle.qc_state.specs.View.{ideal}
 use Rattle.qc_conn.proofs.connection.Connection.new_client.Goals as goal
 

@@ -1,8 +1,8 @@
-use Rattle.qc_conn.proofs.NewEnds.{server_ends}
+use Rattle.qc_conn.proofs.NewEnds.{server_ends, server_told}
 use Rattle.qc_conn.proofs.Marks.{new_mark}
 use Rattle.qc_conn.proofs.NewLaws.{server_acks, server_kept, server_new, server_streams, server_timer, server_unposted, server_used}
 use Rattle.qc_conn.proofs.NewIds.{server_new_ids}
-use Rattle.qc_conn.proofs.RunsPlain.{server_plain, server_told}
+use Rattle.qc_conn.proofs.RunsPlain.{server_plain}
 use Rattle.qc_state.specs.View.{ideal}
 use Rattle.qc_conn.proofs.connection.Connection.new_server.Goals as goal
 

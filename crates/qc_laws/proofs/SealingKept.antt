@@ -1,0 +1,230 @@
+-- What sealing reads of a view stays over the packets of a transmit: the keys and their epoch, the ids, what was acknowledged, and how long the CRYPTO
+-- streams are.
+use Rattle.std.proofs.Common.{◌≡◌, ℕ, ◌-◌, List, ◌∷◌, [], refl, ap, ◌∙◌, Bool, true, false, Option, Some, None}
+use Rattle.std.specs.List.{list_any}
+use Rattle.std.specs.Option.{option_map}
+use Rattle.qc_base.specs.declared.side.SpaceId.{SpaceId}
+use Rattle.qc_base.specs.declared.side.SpaceId.TheVariants.{Initial, Handshake, «Data»}
+use Rattle.qc_frame.specs.Frame.{FrameValue}
+use Rattle.qc_rings.specs.Keyed.{keyed_sealed}
+use Rattle.qc_rings.specs.Ring.{after_sealed}
+use Rattle.qc_send_stream.specs.Buffer.{Buffer}
+use Rattle.qc_state.specs.declared.deeds.Quiet.{Quiet}
+use Rattle.qc_state.specs.declared.deeds.Quiet.TheVariants.{NothingOwed, Silent, Amplification, Congestion, Pacing, Killed}
+use Rattle.qc_state.specs.declared.form.Form.{Form}
+use Rattle.qc_state.specs.declared.form.Form.TheVariants as form
+use Rattle.qc_state.specs.declared.keys.KeyGroup.{KeyGroup}
+use Rattle.qc_state.specs.declared.keys.OneRttKeys.{OneRttKeys}
+use Rattle.qc_state.specs.declared.keys.SpaceKeys.{SpaceKeys}
+use Rattle.qc_state.specs.declared.numbers.Numbers.{Numbers}
+use Rattle.qc_state.specs.declared.spaces.Spaces.{Spaces}
+use Rattle.qc_state.specs.declared.waiting.SpaceWaiting.{SpaceWaiting}
+use Rattle.qc_state.specs.declared.transmit.Batch.{Batch}
+use Rattle.qc_state.specs.declared.waiting.Waiting.{Waiting}
+use Rattle.qc_state.specs.Acks.{is_ack}
+use Rattle.qc_state.specs.Draws.{word}
+use Rattle.qc_state.specs.Forms.{number_space}
+use Rattle.qc_state.specs.Keys.{count_one, epoch_in, epoch_with, header_key, key_used, packet_key, ring_used}
+use Rattle.qc_state.specs.Moves.{Arm, Ask, Begin, Move, Seal, Skip, Spend, Take, keys_move, move_to, numbers_move, paths_move, setup_move, state_move, waiting_move}
+use Rattle.qc_state.specs.Numbers.{next_number, number_skipped, number_used, used_in}
+use Rattle.qc_state.specs.Offers.{packet_begun}
+use Rattle.qc_state.specs.Paths.{path_kept}
+use Rattle.qc_state.specs.Sending.{Going, MayAll, MayFollow, Sent, begun_after, held_after, packet_after, packet_size, packets_after, probe_begun_after}
+use Rattle.qc_state.specs.Setup.{packet_drawn, word_drawn}
+use Rattle.qc_state.specs.Spaces.{space_of}
+use Rattle.qc_state.specs.Types.{Types, Meaning}
+use Rattle.qc_state.specs.View.{View, At}
+use Rattle.qc_state.specs.Waiting.{bundle_next, frames_again, packet_told, ping_asked, probe_spent, waiting_without}
+use Rattle.qc_state.proofs.Begun.{holds_begun}
+use Rattle.qc_state.proofs.Probed.{begun_holds}
+use Rattle.qc_state.proofs.Transmitted.{IsPacketMove, holds_packets}
+use Rattle.qc_laws.proofs.CryptoBuffers.{all_stays}
+use Rattle.qc_laws.proofs.CryptoPlaces.{bundled_spaces, put_again, put_crypto}
+
+-- ---- keys
+
+module _ {H P : Type 0} where
+  one_mask : (o : Option (SpaceKeys H P)) → option_map (λ (k : SpaceKeys H P). k.keys.header.local) (count_one o) ≡ option_map (λ (k : SpaceKeys H P). k.keys.header.local) o
+  unfolding count_one
+  one_mask None = refl
+  one_mask (Some k) = refl
+
+  one_sealer : (o : Option (SpaceKeys H P)) → option_map (λ (k : SpaceKeys H P). k.keys.packet.local) (count_one o) ≡ option_map (λ (k : SpaceKeys H P). k.keys.packet.local) o
+  unfolding count_one
+  one_sealer None = refl
+  one_sealer (Some k) = refl
+
+  ring_mask : (n : ℕ) (o : Option (OneRttKeys H P)) → option_map (λ (k : OneRttKeys H P). k.header.local) (ring_used n o) ≡ option_map (λ (k : OneRttKeys H P). k.header.local) o
+  unfolding ring_used
+  ring_mask n None = refl
+  ring_mask n (Some k) = refl
+
+  ring_sealer : (n : ℕ) (o : Option (OneRttKeys H P)) → option_map (λ (k : OneRttKeys H P). k.ring.current.local) (ring_used n o) ≡ option_map (λ (k : OneRttKeys H P). k.ring.current.local) o
+  unfolding ring_used keyed_sealed
+  ring_sealer n None = refl
+  ring_sealer n (Some k) = refl
+
+  ring_epoch : (n : ℕ) (o : Option (OneRttKeys H P)) → epoch_with (ring_used n o) ≡ epoch_with o
+  unfolding ring_used keyed_sealed after_sealed
+  ring_epoch n None = refl
+  ring_epoch n (Some k) = refl
+
+  used_mask : (v : KeyGroup H P) (f : Form) (n : ℕ) (g : Form) → header_key (key_used v f n) g ≡ header_key v g
+  unfolding key_used header_key
+  used_mask v form.Initial n form.Initial = one_mask v.initial
+  used_mask v form.Handshake n form.Handshake = one_mask v.handshake
+  used_mask v form.OneRtt n form.OneRtt = ring_mask n v.«data»
+  used_mask v _ n _ = refl
+
+  used_sealer : (v : KeyGroup H P) (f : Form) (n : ℕ) (g : Form) → packet_key (key_used v f n) g ≡ packet_key v g
+  unfolding key_used packet_key
+  used_sealer v form.Initial n form.Initial = one_sealer v.initial
+  used_sealer v form.Handshake n form.Handshake = one_sealer v.handshake
+  used_sealer v form.OneRtt n form.OneRtt = ring_sealer n v.«data»
+  used_sealer v _ n _ = refl
+
+  used_epoch : (v : KeyGroup H P) (f : Form) (n : ℕ) (g : Form) → epoch_in (key_used v f n) g ≡ epoch_in v g
+  unfolding key_used epoch_in
+  used_epoch v form.OneRtt n form.OneRtt = ring_epoch n v.«data»
+  used_epoch v _ n _ = refl
+
+-- ---- numbers, and what waits
+
+used_acked : (v : Numbers) (space : SpaceId) (n : ℕ) (id : SpaceId) → (space_of (number_used v space n).spaces id).largest_acked ≡ (space_of v.spaces id).largest_acked
+unfolding number_used used_in
+used_acked v Initial n Initial = refl
+used_acked v Handshake n Handshake = refl
+used_acked v Data n Data = refl
+used_acked v _ n _ = refl
+
+skipped_acked : (v : Numbers) (word : ℕ) (id : SpaceId) → (space_of (number_skipped v word).spaces id).largest_acked ≡ (space_of v.spaces id).largest_acked
+unfolding number_skipped used_in
+skipped_acked v word Initial = refl
+skipped_acked v word Handshake = refl
+skipped_acked v word Data = refl
+
+taken_written : (v : Waiting) (space : SpaceId) (fs : List FrameValue) (id : SpaceId) → (space_of (waiting_without v space fs).spaces id).crypto.written ≡ (space_of v.spaces id).crypto.written
+unfolding waiting_without
+taken_written v Initial fs Initial = (all_stays v.spaces.initial fs).written
+taken_written v Handshake fs Handshake = (all_stays v.spaces.handshake fs).written
+taken_written v Data fs Data = (all_stays v.spaces.application fs).written
+taken_written v _ fs _ = refl
+
+told_written : (v : Waiting) (last : Bool) (fs : List FrameValue) (next : ℕ) (id : SpaceId) → (space_of (bundle_next (packet_told v last) fs next).spaces id).crypto.written ≡ (space_of v.spaces id).crypto.written
+unfolding bundle_next packet_told
+told_written v last fs next id = ap (λ (w : Spaces SpaceWaiting). (space_of w id).crypto.written) (bundled_spaces _ next (list_any is_ack fs))
+
+module _ {t : Types} where
+  begun_written : (space : SpaceId) (opens : Bool) (s : View t) (id : SpaceId) → (space_of (packet_begun space opens s).waiting.spaces id).crypto.written ≡ (space_of s.waiting.spaces id).crypto.written
+  unfolding probe_spent frames_again ping_asked
+  begun_written space opens s id =
+      begun_holds (λ (v : Waiting). (space_of v.spaces id).crypto.written ≡ (space_of s.waiting.spaces id).crypto.written)
+      (λ w other h. ap (λ (b : Buffer). b.written) (put_crypto id other w.spaces (record (space_of w.spaces other) { probes = (space_of w.spaces other).probes - 1 }) refl) ∙ h)
+      (λ w other fs h. (put_again id other w.spaces fs).written ∙ h)
+      (λ w other h. ap (λ (b : Buffer). b.written) (put_crypto id other w.spaces (record (space_of w.spaces other) { ping = true }) refl) ∙ h)
+      space opens s refl
+
+  -- ---- views
+
+  -- what sealing reads of one is what it reads of the other, but for the numbers, and what was drawn
+  pub record SealsAlike (s v : View t) : Type 0 where
+    pub masks : (f : Form) → header_key v.keys f ≡ header_key s.keys f
+    pub sealers : (f : Form) → packet_key v.keys f ≡ packet_key s.keys f
+    pub epochs : (f : Form) → epoch_in v.keys f ≡ epoch_in s.keys f
+    pub cid : v.paths.current.remote_cid ≡ s.paths.current.remote_cid
+    pub spin : v.paths.spin ≡ s.paths.spin
+    pub fixed : v.setup.fixed ≡ s.setup.fixed
+    pub token : v.setup.initial_token ≡ s.setup.initial_token
+    pub peer : v.setup.peer ≡ s.setup.peer
+    pub acked : (id : SpaceId) → (space_of v.numbers.spaces id).largest_acked ≡ (space_of s.numbers.spaces id).largest_acked
+    pub written : (id : SpaceId) → (space_of v.waiting.spaces id).crypto.written ≡ (space_of s.waiting.spaces id).crypto.written
+
+  pub alike_here : (s : View t) → SealsAlike s s
+  alike_here s = record { masks = λ f. refl; sealers = λ f. refl; epochs = λ f. refl; cid = refl; spin = refl; fixed = refl; token = refl; peer = refl; acked = λ id. refl; written = λ id. refl }
+
+  pub alike_next : (u v w : View t) → SealsAlike u v → SealsAlike v w → SealsAlike u w
+  alike_next u v w g h = record {
+    masks = λ f. h.masks f ∙ g.masks f;
+    sealers = λ f. h.sealers f ∙ g.sealers f;
+    epochs = λ f. h.epochs f ∙ g.epochs f;
+    cid = h.cid ∙ g.cid;
+    spin = h.spin ∙ g.spin;
+    fixed = h.fixed ∙ g.fixed;
+    token = h.token ∙ g.token;
+    peer = h.peer ∙ g.peer;
+    acked = λ id. h.acked id ∙ g.acked id;
+    written = λ id. h.written id ∙ g.written id;
+  }
+
+  -- the moves with which a packet is begun, and counted
+  abbrev AlikeAfter : At t → At t → Type 0
+  AlikeAfter a b = SealsAlike a.state b.state
+
+  begin_alike : (id : SpaceId) (opens : Bool) (a : At t) → AlikeAfter a (move_to (Begin id opens) a)
+  unfolding move_to state_move keys_move paths_move setup_move numbers_move waiting_move
+  begin_alike id opens a = record { masks = λ f. refl; sealers = λ f. refl; epochs = λ f. refl; cid = refl; spin = refl; fixed = refl; token = refl; peer = refl; acked = λ x. refl; written = begun_written id opens a.state }
+
+  skip_alike : (a : At t) → AlikeAfter a (move_to Skip a)
+  unfolding move_to state_move keys_move paths_move setup_move numbers_move waiting_move word_drawn
+  skip_alike a = record { masks = λ f. refl; sealers = λ f. refl; epochs = λ f. refl; cid = refl; spin = refl; fixed = refl; token = refl; peer = refl; acked = skipped_acked a.state.numbers (word a.state.setup.random); written = λ x. refl }
+
+  move_alike : (x : Move t) → IsPacketMove x → (a : At t) → AlikeAfter a (move_to x a)
+  unfolding move_to state_move keys_move paths_move setup_move numbers_move waiting_move path_kept
+  move_alike (Begin id opens) r a = begin_alike id opens a
+  move_alike Skip r a = skip_alike a
+  move_alike (Spend tokens) r a = record { masks = λ f. refl; sealers = λ f. refl; epochs = λ f. refl; cid = refl; spin = refl; fixed = refl; token = refl; peer = refl; acked = λ x. refl; written = λ x. refl }
+  move_alike (Arm at) r a = record { masks = λ f. refl; sealers = λ f. refl; epochs = λ f. refl; cid = refl; spin = refl; fixed = refl; token = refl; peer = refl; acked = λ x. refl; written = λ x. refl }
+  move_alike _ r a = absurd r
+
+  seal_alike : (time n size : ℕ) (f : Form) (fs : List FrameValue) (a : At t) → AlikeAfter a (move_to (Seal time f n size fs) (move_to (Take (number_space f) fs) a))
+  unfolding move_to state_move keys_move paths_move setup_move numbers_move waiting_move packet_drawn
+  seal_alike time n size f fs a = record {
+    masks = used_mask a.state.keys f n;
+    sealers = used_sealer a.state.keys f n;
+    epochs = used_epoch a.state.keys f n;
+    cid = refl;
+    spin = refl;
+    fixed = refl;
+    token = refl;
+    peer = refl;
+    acked = used_acked a.state.numbers (number_space f) n;
+    written = λ id. told_written (waiting_without a.state.waiting (number_space f) fs) _ fs _ id ∙ taken_written a.state.waiting (number_space f) fs id;
+  }
+
+  -- a packet that is begun, and one that was sealed
+  pub begun_alike : (id : SpaceId) (opens : Bool) (a : At t) → SealsAlike a.state (begun_after id opens a).state
+  begun_alike id opens a = holds_begun AlikeAfter (λ b. alike_here b.state) (λ b c d g h. alike_next b.state c.state d.state g h) id opens a (λ b. begin_alike id opens b) (λ b may. skip_alike b)
+
+  pub packets_alike : (m : Meaning t) (time : ℕ) (ps : List Sent) (g : Going t) → MayAll m time g ps → SealsAlike g.now.state (packets_after m time ps g).now.state
+  packets_alike m time ps g may =
+      holds_packets AlikeAfter (λ b. alike_here b.state) (λ b c d h k. alike_next b.state c.state d.state h k) (λ x r b h. move_alike x r b)
+      (λ at f fs b h. seal_alike at (next_number b.state.numbers (number_space f)) (packet_size b.state f fs) f fs b) m time ps g may
+
+  pub packet_alike : (m : Meaning t) (time : ℕ) (p : Sent) (g : Going t) → MayFollow m time g.now.state g.batch p → SealsAlike g.now.state (packet_after m time p g).now.state
+  packet_alike m time p g may = packets_alike m time (p ∷ []) g (may, tt)
+
+  -- and a probe of the path's size that is begun
+  held_alike : (m : Meaning t) (time : ℕ) (quiet : Quiet) (b : Batch) (a : At t) → AlikeAfter a (held_after m time quiet b a)
+  unfolding held_after move_to state_move keys_move paths_move setup_move numbers_move waiting_move
+  held_alike m time Pacing b a = record { masks = λ f. refl; sealers = λ f. refl; epochs = λ f. refl; cid = refl; spin = refl; fixed = refl; token = refl; peer = refl; acked = λ x. refl; written = λ x. refl }
+  held_alike m time NothingOwed b a = alike_here a.state
+  held_alike m time Silent b a = alike_here a.state
+  held_alike m time Amplification b a = alike_here a.state
+  held_alike m time Congestion b a = alike_here a.state
+  held_alike m time Killed b a = alike_here a.state
+
+  asked_alike : (a : At t) → AlikeAfter a (move_to (Ask «Data») a)
+  unfolding move_to state_move keys_move paths_move setup_move numbers_move waiting_move ping_asked
+  asked_alike a = record { masks = λ f. refl; sealers = λ f. refl; epochs = λ f. refl; cid = refl; spin = refl; fixed = refl; token = refl; peer = refl; acked = λ x. refl; written = asked_written }
+    where
+      asked_written : (id : SpaceId) → (space_of (ping_asked a.state.waiting «Data»).spaces id).crypto.written ≡ (space_of a.state.waiting.spaces id).crypto.written
+      asked_written Initial = refl
+      asked_written Handshake = refl
+      asked_written Data = refl
+
+  pub probe_alike : (m : Meaning t) (time : ℕ) (quiet : Quiet) (b : Batch) (a : At t) → SealsAlike a.state (probe_begun_after m time quiet b a).state
+  unfolding probe_begun_after
+  probe_alike m time quiet b a =
+      let c : At t = held_after m time quiet b a in
+      let d : At t = move_to (Ask «Data») c in
+      alike_next a.state c.state (begun_after «Data» false d).state (held_alike m time quiet b a) (alike_next c.state d.state (begun_after «Data» false d).state (asked_alike c) (begun_alike «Data» false d))
