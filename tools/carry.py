@@ -74,8 +74,8 @@ def talk(time, client, server):
 
 def two_ends():
     """A client and a server that were just made."""
-    client = End(["set side client", "set remote 0303030303030303"], CLIENT)
-    server = End(["set side server", "set local 0404040404040404", "set remote 0101010101010101", f"set addr {CLIENT}"], SERVER)
+    client = End(["set side client", "set remote 0303030303030303", "set mtud 0"], CLIENT)
+    server = End(["set side server", "set local 0404040404040404", "set remote 0101010101010101", f"set addr {CLIENT}", "set mtud 0"], SERVER)
     return client, server
 
 

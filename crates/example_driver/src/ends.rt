@@ -88,7 +88,7 @@ fn client_setup(alloc: Global) -> Result<ClientSetup<Toy>>
         remote: address(SERVER_PORT),
         local_ip: None,
         version: 1,
-        allow_mtud: true,
+        allow_mtud: false,
         server_name: String::new(alloc),
     })
 }
@@ -128,7 +128,7 @@ fn server_setup(alloc: Global) -> Result<ServerSetup<Toy>>
         remote: address(CLIENT_PORT),
         local_ip: None,
         version: 1,
-        allow_mtud: true,
+        allow_mtud: false,
         remote_cid: client_id(),
         migration: true,
         preferred: false,

@@ -99,7 +99,7 @@ fn client_setup(alloc: Global) -> Result<ClientSetup<Toy>, AllocError>
         remote: server_address(),
         local_ip: None,
         version: 1,
-        allow_mtud: true,
+        allow_mtud: false,
         server_name: String::new(alloc),
     })
 }
@@ -139,7 +139,7 @@ fn server_setup(alloc: Global, streams: u32) -> Result<ServerSetup<Toy>, AllocEr
         remote: client_address(),
         local_ip: None,
         version: 1,
-        allow_mtud: true,
+        allow_mtud: false,
         remote_cid: ConnectionId::new(&[2; 8]),
         migration: true,
         preferred: false,

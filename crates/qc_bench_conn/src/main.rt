@@ -4,16 +4,17 @@
 //! more. Arguments are words in fours, `bytes STREAMS TURNS SIZE`; each four write a line.
 //!
 //! What the stored run writes is worked out by hand. A handshake takes 3 datagrams of the client's and 2 of the server's. A packet of
-//! 1,200 bytes has a header of 10 and a tag of 16, and room for 1,174 bytes of frames, of which a STREAM frame takes 19 and those of its
-//! stream. So 1,000 bytes on one stream go in one packet a turn, 20 in all; the server acknowledges the first at once, since it misses
-//! number 0, and then each second one: 10 times. Of 100 bytes on each of 10 streams 9 frames go in one packet, and with them 84 bytes of
-//! the tenth, whose 16 last ones go in another: 10 packets in 5 turns, which are acknowledged by twos. Of 10,000 bytes on each of 3
-//! streams 24 packets have 1,155 each; 760 of each stream are left, of which two packets take 760 and 376 each, and a third the last 8:
-//! 27 a turn, 108 in all. A packet has 1,185 to 1,189 bytes, and goes while those in flight and 1,200 more stay below the congestion window.
-//! Of 12,000 that lets 10 go, of 11,864 bytes, in the first turn. Each flight is acknowledged by one packet of the server's, and a window that
-//! held sending back grows by what was acknowledged, to 23,864 then: the 17 others go. In the second turn it lets 20 go, of 23,744 bytes, and
-//! then 7; and then it has 47,608, more than the 27 of a turn. So the server answers 2, 2, 1 and 1 times. The pacer holds none back: it lets two
-//! windows go at once in a round trip of 1 ms, and 2.5 come in 2 ms.
+//! 1,200 bytes has a header of 10 and a tag of 16, and room for 1,174 bytes of frames; a STREAM frame gets so many bytes that it has room with
+//! the greatest head, of 19, and takes what it has. So 1,000 bytes on one stream go in one packet a turn, 20 in all; the server acknowledges the
+//! first at once, since it misses number 0, and then each second one: 10 times. Of 100 bytes on each of 10 streams all go in one packet, in
+//! frames with a head of 4 bytes, or of 6 from the second turn on: 5 packets in 5 turns, which are acknowledged 3 times. Of 10,000 bytes on each
+//! of 3 streams 24 packets have 1,155 each; 760 of each stream are left, of which one packet takes 760 and 389 of the next stream, and another
+//! 760 and the last 371; where an offset has four bytes, these are 387 and 373: 26 a turn, 104 in all. A packet has 1,185 to 1,189 bytes, but for
+//! the last of a turn, and goes while those in flight and 1,200 more stay below the congestion window. Of 12,000 that lets 10 go, of 11,864 bytes,
+//! in the first turn. Each flight is acknowledged by one packet of the server's, and a window that held sending back grows by what was
+//! acknowledged, to 23,864 then: the 16 others go. In the second turn it lets 20 go, of 23,744 bytes, and then 6; and then it has 47,608, more than
+//! the 26 of a turn. So the server answers 2, 2, 1 and 1 times. The pacer holds none back: it lets two windows go at once in a round trip of 1 ms,
+//! and 2.5 come in 2 ms.
 #![tactic(auto)]
 
 mod ends;

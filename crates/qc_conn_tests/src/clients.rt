@@ -68,7 +68,7 @@ fn setup(
         remote: SocketAddr::new(IpAddr::V4(Ipv4Addr::new(192, 0, 2, 1)), 4433),
         local_ip: None,
         version: 1,
-        allow_mtud: true,
+        allow_mtud: false,
         server_name: String::new(alloc),
     })
 }

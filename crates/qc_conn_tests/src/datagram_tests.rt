@@ -4,7 +4,7 @@ use crate::call_tests::{END_TAKES_100, TWO_DATAGRAMS, Told, establish, hear, num
 use crate::clients::{
     Toy, client_at, client_with_buffers, fresh_client, has_event, missing, sealed_len,
 };
-use crate::limit_tests::transmit;
+use crate::limit_tests::{datagram, transmit};
 use bytes::Bytes;
 use qc_conn::{Connection, Event, SendDatagramError};
 use std::alloc::Global;
@@ -147,5 +147,26 @@ fn datagrams_are_refused_for_their_cause(rt: HostRuntime) -> Result<(), Fail> {
         Some(Err(SendDatagramError::Failed))
     );
     assert_eq!(rt; taken(&mut failed), None);
+    Ok(())
+}
+
+/// Whether a client that keeps so many bytes of datagrams that came closes as two come, of two and of three bytes: PROTOCOL_VIOLATION is 10
+/// (RFC 9000, section 20.1).
+fn refuses(alloc: Global, receive: Option<usize>) -> Result<bool, Fail> {
+    let mut client = client_with_buffers(alloc, receive, 100).ok_or("no client")?;
+    let _last = establish(alloc, &mut client, &END_TAKES_100).ok_or("no end")?;
+    let bytes = Vec::from_slice(alloc, &TWO_DATAGRAMS)?;
+    let inputs = [datagram(4, bytes)];
+    let told = missing(alloc, &mut client, &inputs, &["lost TransportError 10 -\n"])?;
+    Ok(told.is_none())
+}
+
+// None may come to an end that announced no size, and none longer than what it announced (RFC 9221, section 3).
+#[test]
+fn a_datagram_that_may_not_come_closes(rt: HostRuntime) -> Result<(), Fail> {
+    let alloc = rt.alloc();
+    assert!(rt; refuses(alloc, None)?);
+    assert!(rt; refuses(alloc, Some(2))?);
+    assert!(rt; !refuses(alloc, Some(3))?);
     Ok(())
 }

@@ -157,7 +157,7 @@ fn server(
         remote,
         local_ip: None,
         version: 1,
-        allow_mtud: true,
+        allow_mtud: false,
         remote_cid,
         migration: true,
         preferred: false,

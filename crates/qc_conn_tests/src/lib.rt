@@ -3,6 +3,8 @@
 #![tactic(auto)]
 
 #[cfg(test)]
+mod batch_tests;
+#[cfg(test)]
 mod call_tests;
 #[cfg(test)]
 mod clients;

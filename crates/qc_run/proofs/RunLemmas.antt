@@ -17,7 +17,7 @@ use Rattle.qc_conn.specs.declared.driving.DriveKind.{DriveKind}
 use Rattle.qc_run.specs.declared.perform.Told.{Told}
 use Rattle.qc_run.specs.declared.perform.Told.TheVariants.{Whole, Refused}
 use Rattle.qc_crypto.specs.declared.packet_key.PacketKey.{Ghosts as PacketKeyGhosts}
-use Rattle.qc_state.specs.First.{first_view, server_view, fixed_of}
+use Rattle.qc_state.specs.First.{allowed_by, first_view, server_view, fixed_of}
 use Rattle.qc_state.specs.Run.{Run}
 use Rattle.qc_state.specs.Types.{meaning}
 use Rattle.qc_state.specs.View.{View, ideal}
@@ -35,7 +35,7 @@ use Rattle.rand_core.specs.Stream.{Stream}
 use Rattle.qc_run.specs.Words.{words_named, words_of}
 use Rattle.qc_run.specs.declared.random.ScriptRandom.{ScriptRandom}
 use Rattle.std.specs.declared.net.socket_addr.SocketAddr.{SocketAddr}
-use Rattle.qc_run.specs.RunText.{IsAddressOf, IsScriptEnd, IsToyRun, IsToyRefusal, IsToldRun, IsRefusalTold, Sessions, client_session, server_session, script_client, script_server, view_for, local_of, remote_of, first_of, token_of, start_of, transport_of, INITIAL_WINDOW, toy}
+use Rattle.qc_run.specs.RunText.{mtud_of, IsAddressOf, IsScriptEnd, IsToyRun, IsToyRefusal, IsToldRun, IsRefusalTold, Sessions, client_session, server_session, script_client, script_server, view_for, local_of, remote_of, first_of, token_of, start_of, transport_of, INITIAL_WINDOW, toy}
 
 -- its trace, as a text
 toy_run_of : (s : Sessions) (h : HeaderMaskGhosts ToyHeaderKey) (p : PacketKeyGhosts ToyPacketKey) (c : ControllerGhosts Reno) (set : Settings) (end : Seen toy ScriptRandom) (inputs : List Input) (steps : List Step) (last : View toy) (text : List ℕ)
@@ -83,29 +83,29 @@ address_plain None address h is = (is.plain.1, is.plain.2)
 address_plain (Some a) address h is = subst IsPlainAddress (sym is) (h.flow, h.scope)
 
 -- what the setup is made of makes the client that the set lines make
-client_made : (s : Sessions) (h : HeaderMaskGhosts ToyHeaderKey) (p : PacketKeyGhosts ToyPacketKey) (c : ControllerGhosts Reno) (set : Settings) (view : View toy) (session : ToySession) (words : Stream) (version : ℕ) (local : List ℕ) (lifetime : Option ℕ) (ip : Option IpAddr) (transport : TransportValues) (control : ℕ) (grease : Bool) (remote : SocketAddr) (first token : List ℕ) (time : ℕ)
-    → session ≡ client_session set → words ≡ words_named set.random → version ≡ 1 → local ≡ local_of set → lifetime ≡ None → ip ≡ None → transport ≡ transport_of set → control ≡ INITIAL_WINDOW → grease ≡ true → first ≡ remote_of set → token ≡ token_of set → time ≡ start_of set
-    → view ≡ first_view (meaning s h p c) session words (fixed_of Client version local first lifetime false ip transport grease words) remote first token transport (new_reno control (first_size transport None)) time → view ≡ script_client s h p c set remote
-client_made s h p c set view session words version local lifetime ip transport control grease remote first token time es ew ev el em ei et ec eg ef ek en e = rw (es, ew, ev, el, em, ei, et, ec, eg, ef, ek, en) at e
+client_made : (s : Sessions) (h : HeaderMaskGhosts ToyHeaderKey) (p : PacketKeyGhosts ToyPacketKey) (c : ControllerGhosts Reno) (set : Settings) (view : View toy) (session : ToySession) (words : Stream) (version : ℕ) (local : List ℕ) (lifetime : Option ℕ) (ip : Option IpAddr) (allow : Bool) (transport : TransportValues) (control : ℕ) (grease : Bool) (remote : SocketAddr) (first token : List ℕ) (time : ℕ)
+    → session ≡ client_session set → words ≡ words_named set.random → version ≡ 1 → local ≡ local_of set → lifetime ≡ None → ip ≡ None → allow ≡ mtud_of set → transport ≡ transport_of set → control ≡ INITIAL_WINDOW → grease ≡ true → first ≡ remote_of set → token ≡ token_of set → time ≡ start_of set
+    → view ≡ first_view (meaning s h p c) session words (fixed_of Client version local first lifetime false ip (allowed_by allow transport) grease words) remote first token (allowed_by allow transport) (new_reno control (first_size (allowed_by allow transport) None)) time → view ≡ script_client s h p c set remote
+client_made s h p c set view session words version local lifetime ip allow transport control grease remote first token time es ew ev el em ei ea et ec eg ef ek en e = rw (es, ew, ev, el, em, ei, ea, et, ec, eg, ef, ek, en) at e
 
 -- and so the server
-server_made : (s : Sessions) (h : HeaderMaskGhosts ToyHeaderKey) (p : PacketKeyGhosts ToyPacketKey) (c : ControllerGhosts Reno) (set : Settings) (view : View toy) (session : ToySession) (words : Stream) (version : ℕ) (local : List ℕ) (lifetime : Option ℕ) (preferred : Bool) (ip : Option IpAddr) (transport : TransportValues) (control : ℕ) (grease : Bool) (remote : SocketAddr) (first remote_cid : List ℕ) (validated : Bool) (time : ℕ)
-    → session ≡ server_session set → words ≡ words_named set.random → version ≡ 1 → local ≡ local_of set → lifetime ≡ None → preferred ≡ false → ip ≡ None → transport ≡ transport_of set → control ≡ INITIAL_WINDOW → grease ≡ true → first ≡ first_of set → remote_cid ≡ remote_of set → validated ≡ false → time ≡ start_of set
-    → view ≡ server_view (meaning s h p c) session words (fixed_of Server version local first lifetime preferred ip transport grease words) remote remote_cid validated transport (new_reno control (first_size transport None)) time → view ≡ script_server s h p c set remote
-server_made s h p c set view session words version local lifetime preferred ip transport control grease remote first remote_cid validated time es ew ev el em ep ei et ec eg ef er eu en e = rw (es, ew, ev, el, em, ep, ei, et, ec, eg, ef, er, eu, en) at e
+server_made : (s : Sessions) (h : HeaderMaskGhosts ToyHeaderKey) (p : PacketKeyGhosts ToyPacketKey) (c : ControllerGhosts Reno) (set : Settings) (view : View toy) (session : ToySession) (words : Stream) (version : ℕ) (local : List ℕ) (lifetime : Option ℕ) (preferred : Bool) (ip : Option IpAddr) (allow : Bool) (transport : TransportValues) (control : ℕ) (grease : Bool) (remote : SocketAddr) (first remote_cid : List ℕ) (validated : Bool) (time : ℕ)
+    → session ≡ server_session set → words ≡ words_named set.random → version ≡ 1 → local ≡ local_of set → lifetime ≡ None → preferred ≡ false → ip ≡ None → allow ≡ mtud_of set → transport ≡ transport_of set → control ≡ INITIAL_WINDOW → grease ≡ true → first ≡ first_of set → remote_cid ≡ remote_of set → validated ≡ false → time ≡ start_of set
+    → view ≡ server_view (meaning s h p c) session words (fixed_of Server version local first lifetime preferred ip (allowed_by allow transport) grease words) remote remote_cid validated (allowed_by allow transport) (new_reno control (first_size (allowed_by allow transport) None)) time → view ≡ script_server s h p c set remote
+server_made s h p c set view session words version local lifetime preferred ip allow transport control grease remote first remote_cid validated time es ew ev el em ep ei ea et ec eg ef er eu en e = rw (es, ew, ev, el, em, ep, ei, ea, et, ec, eg, ef, er, eu, en) at e
 
 -- the end of a side is the connection that the set lines of that side make
 end_of : (s : Sessions) (h : HeaderMaskGhosts ToyHeaderKey) (p : PacketKeyGhosts ToyPacketKey) (c : ControllerGhosts Reno) (set : Settings) (side : Side) (end : Seen toy ScriptRandom) (remote : SocketAddr) → set.side ≡ side → IsAddressOf set.addr remote → ideal words_of end.core ≡ view_for side s h p c set remote → IsScriptEnd s h p c set end
 end_of s h p c set side end remote is address made = record { remote = remote; address = address; made = made ∙ ap (λ (x : Side). view_for x s h p c set remote) (sym is) }
 
-pub client_end : (s : Sessions) (h : HeaderMaskGhosts ToyHeaderKey) (p : PacketKeyGhosts ToyPacketKey) (c : ControllerGhosts Reno) (set : Settings) (end : Seen toy ScriptRandom) (session : ToySession) (words : Stream) (version : ℕ) (local : List ℕ) (lifetime : Option ℕ) (ip : Option IpAddr) (transport : TransportValues) (control : ℕ) (grease : Bool) (remote : SocketAddr) (first token : List ℕ) (time : ℕ)
-    → set.side ≡ Client → IsAddressOf set.addr remote → session ≡ client_session set → words ≡ words_named set.random → version ≡ 1 → local ≡ local_of set → lifetime ≡ None → ip ≡ None → transport ≡ transport_of set → control ≡ INITIAL_WINDOW → grease ≡ true → first ≡ remote_of set → token ≡ token_of set → time ≡ start_of set
-    → ideal words_of end.core ≡ first_view (meaning s h p c) session words (fixed_of Client version local first lifetime false ip transport grease words) remote first token transport (new_reno control (first_size transport None)) time → IsScriptEnd s h p c set end
-client_end s h p c set end session words version local lifetime ip transport control grease remote first token time side address es ew ev el em ei et ec eg ef ek en e =
-    end_of s h p c set Client end remote side address (client_made s h p c set (ideal words_of end.core) session words version local lifetime ip transport control grease remote first token time es ew ev el em ei et ec eg ef ek en e)
+pub client_end : (s : Sessions) (h : HeaderMaskGhosts ToyHeaderKey) (p : PacketKeyGhosts ToyPacketKey) (c : ControllerGhosts Reno) (set : Settings) (end : Seen toy ScriptRandom) (session : ToySession) (words : Stream) (version : ℕ) (local : List ℕ) (lifetime : Option ℕ) (ip : Option IpAddr) (allow : Bool) (transport : TransportValues) (control : ℕ) (grease : Bool) (remote : SocketAddr) (first token : List ℕ) (time : ℕ)
+    → set.side ≡ Client → IsAddressOf set.addr remote → session ≡ client_session set → words ≡ words_named set.random → version ≡ 1 → local ≡ local_of set → lifetime ≡ None → ip ≡ None → allow ≡ mtud_of set → transport ≡ transport_of set → control ≡ INITIAL_WINDOW → grease ≡ true → first ≡ remote_of set → token ≡ token_of set → time ≡ start_of set
+    → ideal words_of end.core ≡ first_view (meaning s h p c) session words (fixed_of Client version local first lifetime false ip (allowed_by allow transport) grease words) remote first token (allowed_by allow transport) (new_reno control (first_size (allowed_by allow transport) None)) time → IsScriptEnd s h p c set end
+client_end s h p c set end session words version local lifetime ip allow transport control grease remote first token time side address es ew ev el em ei ea et ec eg ef ek en e =
+    end_of s h p c set Client end remote side address (client_made s h p c set (ideal words_of end.core) session words version local lifetime ip allow transport control grease remote first token time es ew ev el em ei ea et ec eg ef ek en e)
 
-pub server_end : (s : Sessions) (h : HeaderMaskGhosts ToyHeaderKey) (p : PacketKeyGhosts ToyPacketKey) (c : ControllerGhosts Reno) (set : Settings) (end : Seen toy ScriptRandom) (session : ToySession) (words : Stream) (version : ℕ) (local : List ℕ) (lifetime : Option ℕ) (preferred : Bool) (ip : Option IpAddr) (transport : TransportValues) (control : ℕ) (grease : Bool) (remote : SocketAddr) (first remote_cid : List ℕ) (validated : Bool) (time : ℕ)
-    → set.side ≡ Server → IsAddressOf set.addr remote → session ≡ server_session set → words ≡ words_named set.random → version ≡ 1 → local ≡ local_of set → lifetime ≡ None → preferred ≡ false → ip ≡ None → transport ≡ transport_of set → control ≡ INITIAL_WINDOW → grease ≡ true → first ≡ first_of set → remote_cid ≡ remote_of set → validated ≡ false → time ≡ start_of set
-    → ideal words_of end.core ≡ server_view (meaning s h p c) session words (fixed_of Server version local first lifetime preferred ip transport grease words) remote remote_cid validated transport (new_reno control (first_size transport None)) time → IsScriptEnd s h p c set end
-server_end s h p c set end session words version local lifetime preferred ip transport control grease remote first remote_cid validated time side address es ew ev el em ep ei et ec eg ef er eu en e =
-    end_of s h p c set Server end remote side address (server_made s h p c set (ideal words_of end.core) session words version local lifetime preferred ip transport control grease remote first remote_cid validated time es ew ev el em ep ei et ec eg ef er eu en e)
+pub server_end : (s : Sessions) (h : HeaderMaskGhosts ToyHeaderKey) (p : PacketKeyGhosts ToyPacketKey) (c : ControllerGhosts Reno) (set : Settings) (end : Seen toy ScriptRandom) (session : ToySession) (words : Stream) (version : ℕ) (local : List ℕ) (lifetime : Option ℕ) (preferred : Bool) (ip : Option IpAddr) (allow : Bool) (transport : TransportValues) (control : ℕ) (grease : Bool) (remote : SocketAddr) (first remote_cid : List ℕ) (validated : Bool) (time : ℕ)
+    → set.side ≡ Server → IsAddressOf set.addr remote → session ≡ server_session set → words ≡ words_named set.random → version ≡ 1 → local ≡ local_of set → lifetime ≡ None → preferred ≡ false → ip ≡ None → allow ≡ mtud_of set → transport ≡ transport_of set → control ≡ INITIAL_WINDOW → grease ≡ true → first ≡ first_of set → remote_cid ≡ remote_of set → validated ≡ false → time ≡ start_of set
+    → ideal words_of end.core ≡ server_view (meaning s h p c) session words (fixed_of Server version local first lifetime preferred ip (allowed_by allow transport) grease words) remote remote_cid validated (allowed_by allow transport) (new_reno control (first_size (allowed_by allow transport) None)) time → IsScriptEnd s h p c set end
+server_end s h p c set end session words version local lifetime preferred ip allow transport control grease remote first remote_cid validated time side address es ew ev el em ep ei ea et ec eg ef er eu en e =
+    end_of s h p c set Server end remote side address (server_made s h p c set (ideal words_of end.core) session words version local lifetime preferred ip allow transport control grease remote first remote_cid validated time es ew ev el em ep ei ea et ec eg ef er eu en e)

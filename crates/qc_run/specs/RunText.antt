@@ -1,5 +1,5 @@
 -- The run of a script's inputs on the connection that its set lines make, and its text.
-use Rattle.std.specs.Prelude.{◌≡◌, ℕ, List, [], ◌∷◌, Option, None, Some, true, false, replicate, take, unwrap_or}
+use Rattle.std.specs.Prelude.{◌≡◌, ℕ, List, [], ◌∷◌, Option, None, Some, true, false, replicate, take, unwrap_or, Bool}
 use Rattle.std.specs.List.{All}
 use Rattle.std.specs.Net.Addr.{ipv6_segments}
 use Rattle.std.specs.Net.Socket.{socket_ip, IsPlainSocket}
@@ -25,7 +25,7 @@ use Rattle.qc_path.specs.NewReno.{Reno, new_reno}
 use Rattle.qc_path.specs.declared.controller.Controller.{Ghosts as ControllerGhosts}
 use Rattle.qc_recovery.specs.Paths.{first_size}
 use Rattle.qc_recovery.specs.TransportValues.{default_transport, TransportValues}
-use Rattle.qc_state.specs.First.{first_view, server_view, fixed_of}
+use Rattle.qc_state.specs.First.{allowed_by, first_view, server_view, fixed_of}
 use Rattle.qc_state.specs.Run.{Run}
 use Rattle.qc_state.specs.Types.{Types, Meaning, meaning}
 use Rattle.qc_state.specs.View.{View, ideal}
@@ -89,6 +89,14 @@ transport_of s =
       enable_segmentation_offload = unwrap_or s.gso true;
     }
 
+-- whether larger datagrams are looked for
+abbrev pub mtud_of : Settings → Bool
+mtud_of s = unwrap_or s.mtud true
+
+-- the configuration of the transport, with which they are looked for or aren't
+abbrev pub allowed_of : Settings → TransportValues
+allowed_of s = allowed_by (mtud_of s) (transport_of s)
+
 -- the window in bytes with which the path's congestion controller begins: ten datagrams of 1200 (RFC 9002, section 7.2)
 abbrev pub INITIAL_WINDOW : ℕ
 INITIAL_WINDOW = 12000
@@ -146,15 +154,15 @@ Sessions = SessionGhosts ToySession ToyHeaderKey ToyPacketKey (Unit {0}) (Unit {
 abbrev pub script_client : Sessions → HeaderMaskGhosts ToyHeaderKey → PacketKeyGhosts ToyPacketKey → ControllerGhosts Reno → Settings → SocketAddr → View toy
 script_client s h p c set remote =
     first_view (meaning s h p c) (client_session set) (words_named set.random)
-    (fixed_of Client 1 (local_of set) (remote_of set) None false None (transport_of set) true (words_named set.random))
-    remote (remote_of set) (token_of set) (transport_of set) (control_of (transport_of set)) (start_of set)
+    (fixed_of Client 1 (local_of set) (remote_of set) None false None (allowed_of set) true (words_named set.random))
+    remote (remote_of set) (token_of set) (allowed_of set) (control_of (allowed_of set)) (start_of set)
 
 -- so the server, which announces no preferred address, and whose client's address isn't validated
 abbrev pub script_server : Sessions → HeaderMaskGhosts ToyHeaderKey → PacketKeyGhosts ToyPacketKey → ControllerGhosts Reno → Settings → SocketAddr → View toy
 script_server s h p c set remote =
     server_view (meaning s h p c) (server_session set) (words_named set.random)
-    (fixed_of Server 1 (local_of set) (first_of set) None false None (transport_of set) true (words_named set.random))
-    remote (remote_of set) false (transport_of set) (control_of (transport_of set)) (start_of set)
+    (fixed_of Server 1 (local_of set) (first_of set) None false None (allowed_of set) true (words_named set.random))
+    remote (remote_of set) false (allowed_of set) (control_of (allowed_of set)) (start_of set)
 
 -- the end of this side
 abbrev pub view_for : Side → Sessions → HeaderMaskGhosts ToyHeaderKey → PacketKeyGhosts ToyPacketKey → ControllerGhosts Reno → Settings → SocketAddr → View toy

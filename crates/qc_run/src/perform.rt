@@ -4,7 +4,7 @@ ghost use Rattle.std.specs.Prelude.{true, false, replicate, unwrap_or, ◌≡◌
 ghost use Rattle.qc_script.specs.Fields.{IsAddress};
 ghost use Rattle.qc_text.specs.OneText.{IsPlainStart};
 ghost use Rattle.qc_run.specs.Words.{words_named, words_of};
-ghost use Rattle.qc_run.specs.RunText.{IsScriptAddress, IsAddressOf, IsScriptEnd, IsToyRun, IsToyRefusal, IsToldRun, IsRefusalTold, client_session, server_session, parameters_of, reset_token_of, server_parameters_of, settings_of, transport_of, INITIAL_WINDOW, local_of, remote_of, first_of, start_of, view_for};
+ghost use Rattle.qc_run.specs.RunText.{mtud_of, IsScriptAddress, IsAddressOf, IsScriptEnd, IsToyRun, IsToyRefusal, IsToldRun, IsRefusalTold, client_session, server_session, parameters_of, reset_token_of, server_parameters_of, settings_of, transport_of, INITIAL_WINDOW, local_of, remote_of, first_of, start_of, view_for};
 
 use crate::random::{ScriptRandom, random_of};
 use crate::token::OneToken;
@@ -187,6 +187,7 @@ fn client_setup(alloc: Global, set: &Settings) -> Result<ClientSetup<Toy>, Alloc
     ensures lifetime { IfOk result (λ setup. setup.cid_lifetime ≡ None) }
     ensures local_ip { IfOk result (λ setup. setup.local_ip ≡ None) }
     ensures first_cid { IfOk result (λ setup. setup.first_cid ≡ remote_of set.now) }
+    ensures allow { IfOk result (λ setup. setup.allow_mtud ≡ mtud_of set.now) }
     ensures transport { IfOk result (λ setup. setup.transport ≡ transport_of set.now) }
     ensures control { IfOk result (λ setup. setup.control ≡ INITIAL_WINDOW) }
     ensures grease { IfOk result (λ setup. setup.grease_quic_bit ≡ true) }
@@ -208,7 +209,7 @@ fn client_setup(alloc: Global, set: &Settings) -> Result<ClientSetup<Toy>, Alloc
         remote: address_or(set.addr),
         local_ip: None,
         version: 1,
-        allow_mtud: true,
+        allow_mtud: set.mtud.unwrap_or(true),
         server_name: String::new(alloc),
     })
 }
@@ -226,6 +227,7 @@ fn server_setup(alloc: Global, set: &Settings) -> Result<ServerSetup<Toy>, Alloc
     ensures local_ip { IfOk result (λ setup. setup.local_ip ≡ None) }
     ensures first_cid { IfOk result (λ setup. setup.first_cid ≡ first_of set.now) }
     ensures remote_cid { IfOk result (λ setup. setup.remote_cid ≡ remote_of set.now) }
+    ensures allow { IfOk result (λ setup. setup.allow_mtud ≡ mtud_of set.now) }
     ensures transport { IfOk result (λ setup. setup.transport ≡ transport_of set.now) }
     ensures control { IfOk result (λ setup. setup.control ≡ INITIAL_WINDOW) }
     ensures grease { IfOk result (λ setup. setup.grease_quic_bit ≡ true) }
@@ -248,7 +250,7 @@ fn server_setup(alloc: Global, set: &Settings) -> Result<ServerSetup<Toy>, Alloc
         remote: address_or(set.addr),
         local_ip: None,
         version: 1,
-        allow_mtud: true,
+        allow_mtud: set.mtud.unwrap_or(true),
         remote_cid: id_or(set.remote, 2),
         migration: true,
         preferred: false,

@@ -36,6 +36,7 @@ fn a_client_is_called_directly(rt: HostRuntime) -> Result<(), Fail> {
         limit_handshake: None,
         limit_failures: None,
         idle: None,
+        mtud: None,
         gso: None,
     };
     let mut client = script_end(rt.alloc(), &set)?;

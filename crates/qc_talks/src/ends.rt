@@ -7,8 +7,10 @@ use qc_base::{ConnectionId, EcnCodepoint, Instant, VarInt};
 use qc_config::NoneTokenStore;
 use qc_conn::text::trace_text;
 use qc_conn::{Connection, drive};
+use qc_recovery::TransportConfig;
 use qc_state::{Answer, Body, Input, Step, Trace};
 use std::alloc::{AllocError, Global};
+use std::default::Default;
 use std::net::SocketAddr;
 use std::slice;
 use std::test::Fail;
@@ -71,7 +73,16 @@ fn last_datagram(alloc: Global, trace: &Trace) -> Result<Option<Vec<u8>>, AllocE
 impl End {
     /// The client whose first packets go to the id of eight such bytes.
     pub(crate) fn client(alloc: Global, first: u8) -> Result<End, AllocError> {
-        let connection = client_to(alloc, ConnectionId::new(&[first; 8]))?;
+        End::client_with(alloc, first, TransportConfig::default())
+    }
+
+    /// The same with this transport.
+    pub(crate) fn client_with(
+        alloc: Global,
+        first: u8,
+        transport: TransportConfig,
+    ) -> Result<End, AllocError> {
+        let connection = client_to(alloc, ConnectionId::new(&[first; 8]), transport)?;
         Ok(End {
             connection,
             address: client_address(),

@@ -31,6 +31,8 @@ mod setups;
 #[cfg(test)]
 mod sign_tests;
 #[cfg(test)]
+mod size_tests;
+#[cfg(test)]
 mod stream_tests;
 #[cfg(test)]
 mod tally;

@@ -2,7 +2,9 @@
 
 use crate::ends::End;
 use qc_base::EcnCodepoint;
+use qc_recovery::TransportConfig;
 use std::alloc::{AllocError, Global};
+use std::default::Default;
 use std::test::Fail;
 
 /// How a datagram is carried: how many times it comes, and with which mark of explicit congestion notification.
@@ -56,7 +58,16 @@ impl Pair {
 
     /// The same, of which the server takes so many bytes of a stream, and of all streams together.
     pub(crate) fn with_window(alloc: Global, window: Option<u32>) -> Result<Pair, AllocError> {
-        let client = End::client(alloc, 3)?;
+        Pair::of(alloc, TransportConfig::default(), window)
+    }
+
+    /// Two ends, the client with this transport, and the server with so many bytes.
+    pub(crate) fn of(
+        alloc: Global,
+        transport: TransportConfig,
+        window: Option<u32>,
+    ) -> Result<Pair, AllocError> {
+        let client = End::client_with(alloc, 3, transport)?;
         let server = End::server(alloc, window)?;
         Ok(Pair {
             client,

@@ -74,12 +74,15 @@ fn server_session(alloc: Global, params: &TransportParameters) -> Result<ToySess
     }
 }
 
-/// What a client is made of whose first packets go to this id.
-fn client_setup(alloc: Global, first_cid: ConnectionId) -> Result<ClientSetup<Toy>, AllocError>
+/// What a client with this transport is made of whose first packets go to this id.
+fn client_setup(
+    alloc: Global,
+    first_cid: ConnectionId,
+    transport: TransportConfig,
+) -> Result<ClientSetup<Toy>, AllocError>
     ensures fresh { IfOk result (λ setup. ⟦<ToySession as Session>⟧.is_fresh setup.session) }
     ensures client { IfOk result (λ setup. setup.session.side ≡ Side.Client) }
 {
-    let transport = TransportConfig::default();
     let local_cid = ConnectionId::new(&[2; 8]);
     let params = announced(&transport, MAX_UDP_PAYLOAD, local_cid, true);
     let session = client_session(alloc, &params)?;
@@ -96,7 +99,7 @@ fn client_setup(alloc: Global, first_cid: ConnectionId) -> Result<ClientSetup<To
         remote: server_address(),
         local_ip: None,
         version: 1,
-        allow_mtud: true,
+        allow_mtud: false,
         server_name: String::new(alloc),
     })
 }
@@ -140,7 +143,7 @@ fn server_setup(alloc: Global, window: Option<u32>) -> Result<ServerSetup<Toy>, 
         remote: client_address(),
         local_ip: None,
         version: 1,
-        allow_mtud: true,
+        allow_mtud: false,
         remote_cid: ConnectionId::new(&[2; 8]),
         migration: true,
         preferred: false,
@@ -148,12 +151,14 @@ fn server_setup(alloc: Global, window: Option<u32>) -> Result<ServerSetup<Toy>, 
     })
 }
 
-/// A client made at time 0 whose first packets go to this id, on the heap: a function that owns a whole connection is slow to check.
+/// A client with this transport made at time 0 whose first packets go to this id, on the heap: a function that owns a whole connection is slow
+/// to check.
 pub(crate) fn client_to(
     alloc: Global,
     first_cid: ConnectionId,
+    transport: TransportConfig,
 ) -> Result<Box<Connection<Toy>>, AllocError> {
-    let setup = client_setup(alloc, first_cid)?;
+    let setup = client_setup(alloc, first_cid, transport)?;
     let start = Instant::from_nanos(0);
     let client = Connection::new_client(alloc, setup, &mut NoneTokenStore, start)?;
     Ok(Box::new(alloc, client)?)

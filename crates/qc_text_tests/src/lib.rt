@@ -5,4 +5,6 @@
 #[cfg(test)]
 mod script_tests;
 #[cfg(test)]
+mod set_tests;
+#[cfg(test)]
 mod trace_tests;

@@ -1,0 +1,264 @@
+//! Set lines of a script: what each sets, in which order they stand, and those at the edges of them.
+
+use crate::script_tests::{bad_line, is_bad, script_of};
+use qc_base::{ConnectionId, Instant, Side, VarInt};
+use qc_script::{RandomWords, Settings, read_script};
+use std::alloc::Global;
+use std::net::{IpAddr, Ipv4Addr, SocketAddr};
+use std::process::Abort;
+use std::test::Fail;
+
+/// For which values there is a set line, in the order of the lines.
+fn are_set(settings: &Settings) -> [bool; 14] {
+    [
+        settings.random.is_some(),
+        settings.time.is_some(),
+        settings.local.is_some(),
+        settings.remote.is_some(),
+        settings.first.is_some(),
+        settings.addr.is_some(),
+        settings.token.is_some(),
+        settings.secret.is_some(),
+        settings.limit_initial.is_some(),
+        settings.limit_handshake.is_some(),
+        settings.limit_failures.is_some(),
+        settings.idle.is_some(),
+        settings.mtud.is_some(),
+        settings.gso.is_some(),
+    ]
+}
+
+/// Each set line, in the order of the lines, and a side that takes it.
+const EACH_LINE: &[(&str, &str)] = &[
+    ("server", "set random zero"),
+    ("server", "set time 0"),
+    ("server", "set local -"),
+    ("server", "set remote 01"),
+    ("server", "set first 02"),
+    ("server", "set addr c0000201/1"),
+    ("client", "set token -"),
+    ("server", "set secret 0102030405"),
+    ("server", "set limit_initial 0"),
+    ("server", "set limit_handshake 0"),
+    ("server", "set limit_failures 0"),
+    ("server", "set idle 0"),
+    ("server", "set mtud 0"),
+    ("server", "set gso 0"),
+];
+
+/// Whether a script of this side with this line has a value for the set line at this place alone, and no input.
+fn stands_alone(alloc: Global, side: &str, line: &str, place: usize) -> Result<bool, Fail> {
+    let script = script_of(alloc, side, line)?;
+    Ok(is_alone(&script.settings, place) && script.inputs.is_empty())
+}
+
+/// Whether there is a value for the set line at this place alone.
+fn is_alone(settings: &Settings, place: usize) -> bool {
+    for (other, is_set) in are_set(settings).iter().enumerate() {
+        if *is_set != (other == place) {
+            return false;
+        }
+    }
+    true
+}
+
+#[test]
+fn each_set_line_stands_alone(rt: HostRuntime) -> Result<(), Fail> {
+    for (place, (side, line)) in EACH_LINE.iter().enumerate() {
+        assert!(rt; stands_alone(rt.alloc(), side, line, place)?, "{line:?}");
+    }
+    Ok(())
+}
+
+/// Every set line that a server has, and one input.
+const EVERY_LINE: &str =
+    "set side server\nset random 000102030405060708090a0b0c0d0e0f101112131415161718191a1b1c1d1e1f\nset time 5\nset local 0a0b\nset remote -\nset first 0102030405060708\nset addr c0000201/443\nset secret 00ff010203\nset limit_initial 2\nset limit_handshake 30\nset limit_failures 18446744073709551615\nset idle 30000\nset mtud 0\nset gso 1\nping 6\n";
+
+/// The values of those lines.
+fn check_every_line(rt: &impl Abort, settings: &Settings) {
+    assert_eq!(rt; settings.side, Side::Server);
+    let seed = [
+        0, 1, 2, 3, 4, 5, 6, 7, 8, 9, 10, 11, 12, 13, 14, 15, 16, 17, 18, 19, 20, 21, 22, 23, 24,
+        25, 26, 27, 28, 29, 30, 31,
+    ];
+    assert_eq!(rt; settings.random, Some(RandomWords::Seed(seed)));
+    assert_eq!(rt; settings.time, Some(Instant::from_nanos(5)));
+    assert_eq!(rt; settings.local, Some(ConnectionId::new(&[10, 11])));
+    assert_eq!(rt; settings.remote, Some(ConnectionId::new(&[])));
+    let first = ConnectionId::new(&[1, 2, 3, 4, 5, 6, 7, 8]);
+    assert_eq!(rt; settings.first, Some(first));
+    let address = SocketAddr::new(IpAddr::V4(Ipv4Addr::new(192, 0, 2, 1)), 443);
+    assert!(rt; settings.addr == Some(address));
+    assert_eq!(rt; settings.secret, Some([0, 255, 1, 2, 3]));
+    assert_eq!(rt; settings.limit_initial, Some(2));
+    assert_eq!(rt; settings.limit_handshake, Some(30));
+    assert_eq!(rt; settings.limit_failures, Some(u64::MAX));
+    assert_eq!(rt; settings.idle, Some(VarInt::from_u32(30_000)));
+    assert_eq!(rt; settings.mtud, Some(false));
+    assert_eq!(rt; settings.gso, Some(true));
+}
+
+#[test]
+fn a_server_has_every_set_line_but_one(rt: HostRuntime) -> Result<(), Fail> {
+    let script = match read_script(rt.alloc(), EVERY_LINE.as_bytes()) {
+        Ok(script) => script,
+        Err(_) => return Err("a bad line".into()),
+    };
+    check_every_line(&rt, &script.settings);
+    assert_eq!(rt; script.inputs.len(), 1);
+    Ok(())
+}
+
+// A flag is a digit: 0 says no, and 1 yes.
+#[test]
+fn a_flag_is_a_digit(rt: HostRuntime) -> Result<(), Fail> {
+    for (line, flag) in [("set gso 0", false), ("set gso 1", true)] {
+        let script = script_of(rt.alloc(), "server", line)?;
+        assert_eq!(rt; script.settings.gso, Some(flag), "{line:?}");
+    }
+    for (line, flag) in [("set mtud 0", false), ("set mtud 1", true)] {
+        let script = script_of(rt.alloc(), "server", line)?;
+        assert_eq!(rt; script.settings.mtud, Some(flag), "{line:?}");
+    }
+    Ok(())
+}
+
+/// Whether a client's script with these lines has zeros for random words, and whether it has this token.
+fn has_token(alloc: Global, lines: &str, token: &[u8]) -> Result<(bool, bool), Fail> {
+    let script = script_of(alloc, "client", lines)?;
+    Ok((
+        script.settings.random == Some(RandomWords::Zeros),
+        is_token(&script.settings, token),
+    ))
+}
+
+/// Whether this is the token.
+fn is_token(settings: &Settings, token: &[u8]) -> bool {
+    match &settings.token {
+        Some(bytes) => bytes.as_slice() == token,
+        None => false,
+    }
+}
+
+// A token has any length, and `-` is one without bytes.
+#[test]
+fn a_client_has_a_token(rt: HostRuntime) -> Result<(), Fail> {
+    let lines = "set random zero\nset token 00ff7a";
+    assert_eq!(rt;
+        has_token(rt.alloc(), lines, &[0x00, 0xff, 0x7a])?,
+        (true, true)
+    );
+    assert_eq!(rt; has_token(rt.alloc(), "set token -", &[])?, (false, true));
+    Ok(())
+}
+
+/// Set lines, and whether they are bad. Each line is the second of a client's script. The first of a pair is the last that is taken.
+const SET_LINES: &[(&str, bool)] = &[
+    ("set random zero", false),
+    ("set random zeros", true),
+    ("set random Zero", true),
+    ("set random ", true),
+    ("set random -", true),
+    (
+        "set random ffffffffffffffffffffffffffffffffffffffffffffffffffffffffffffffff",
+        false,
+    ),
+    (
+        "set random ffffffffffffffffffffffffffffffffffffffffffffffffffffffffffffffFF",
+        true,
+    ),
+    (
+        "set random ffffffffffffffffffffffffffffffffffffffffffffffffffffffffffffff",
+        true,
+    ),
+    (
+        "set random ffffffffffffffffffffffffffffffffffffffffffffffffffffffffffffffffff",
+        true,
+    ),
+    ("set time 18446744073709551615", false),
+    ("set time 18446744073709551616", true),
+    ("set local 0102030405060708090a0b0c0d0e0f1011121314", false),
+    ("set local 0102030405060708090a0b0c0d0e0f101112131415", true),
+    ("set remote 0102030405060708", false),
+    ("set remote 01020304050607", true),
+    ("set first 0102030405060708", true),
+    ("set addr c0000201/65536", true),
+    ("set token -", false),
+    ("set token 0", true),
+    ("set token 0A", true),
+    ("set token ", true),
+    ("set secret 01020304", true),
+    ("set secret 0102030405", false),
+    ("set secret 010203040506", true),
+    ("set limit_initial 18446744073709551615", false),
+    ("set limit_initial 18446744073709551616", true),
+    ("set limit_handshake 18446744073709551615", false),
+    ("set limit_handshake 18446744073709551616", true),
+    ("set limit_failures 18446744073709551615", false),
+    ("set limit_failures 18446744073709551616", true),
+    ("set idle 4611686018427387903", false),
+    ("set idle 4611686018427387904", true),
+    ("set mtud 0", false),
+    ("set mtud 1", false),
+    ("set mtud 2", true),
+    ("set mtud 01", true),
+    ("set mtud", true),
+    ("set gso 0", false),
+    ("set gso 1", false),
+    ("set gso 2", true),
+    ("set gso 00", true),
+    ("set gso 10", true),
+    ("set gso ", true),
+    ("set gso", true),
+    ("set gso -", true),
+    ("set gso true", true),
+    ("set local 0A", true),
+    ("set limit_initial 02", true),
+    ("set limit_handshake 00", true),
+    ("set limit_failures 01", true),
+    ("set limit_initial ", true),
+    ("set limit_handshake", true),
+    ("set limit_failures -", true),
+    ("set limit_data 1", true),
+    ("set limit_ 1", true),
+    ("set limit 1", true),
+    ("set other 1", true),
+];
+
+#[test]
+fn set_lines_have_bounds(rt: HostRuntime) -> Result<(), Fail> {
+    for (line, bad) in SET_LINES {
+        assert_eq!(rt; is_bad(rt.alloc(), line)?, *bad, "{line:?}");
+    }
+    Ok(())
+}
+
+// Each text's third line is the same as its second, or comes before it in the order of set lines.
+#[test]
+fn set_lines_stand_once_and_in_order(rt: HostRuntime) -> Result<(), Fail> {
+    for lines in [
+        "set random zero\nset random zero",
+        "set time 1\nset random zero",
+        "set token 01\nset token 01",
+        "set token 01\nset addr c0000201/1",
+        "set secret 0102030405\nset token 01",
+        "set limit_initial 1\nset limit_initial 1",
+        "set limit_handshake 1\nset limit_handshake 1",
+        "set limit_failures 1\nset limit_failures 1",
+        "set limit_initial 1\nset secret 0102030405",
+        "set limit_handshake 1\nset limit_initial 1",
+        "set limit_failures 1\nset limit_handshake 1",
+        "set limit_failures 1\nset limit_initial 1",
+        "set idle 0\nset limit_failures 1",
+        "set mtud 0\nset idle 0",
+        "set mtud 1\nset mtud 1",
+        "set gso 1\nset mtud 1",
+        "set gso 1\nset gso 1",
+        "set gso 0\nset gso 1",
+        "set gso 1\nset idle 0",
+    ] {
+        let text = format!(in rt.alloc(); "set side client\n{lines}\nping 0\n")?;
+        assert_eq!(rt; bad_line(rt.alloc(), text.as_str())?, Some(3), "{lines:?}");
+    }
+    Ok(())
+}
