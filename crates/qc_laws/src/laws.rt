@@ -73,8 +73,9 @@ pub fn acks_were_accepted<U: Suite>()
 {}
 
 /// A law, which runs no code. Over a run the path keeps its address, which is validated only where it was before or a Handshake
-/// packet was admitted; no more bytes count as received on it than came in datagrams from that address; and what is sent to an address that isn't validated stays less than three times what came from
-/// it, and one datagram (RFC 9000, 8.1).
+/// packet was admitted; no more bytes count as received on it than came in datagrams from that address; and what is sent to an address
+/// that isn't validated stays less than three times what came from it, and one datagram of the size with which its path began (RFC 9000,
+/// section 8.1).
 pub fn paths_hold<U: Suite>()
     ensures { (s last : View ⟦<U as Means>⟧.types) (k : ℕ) (is : List Input) (xs : List Step) → Run ⟦<U as Means>⟧.meaning k s is xs last → PathHolds (all_from s.paths.current.remote is) (deeds_of xs) s.paths.current last.paths.current }
 {}
