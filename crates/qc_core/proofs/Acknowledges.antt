@@ -21,9 +21,12 @@ use Rattle.qc_state.specs.declared.numbers.Numbers.{Numbers}
 use Rattle.qc_state.specs.declared.waiting.Waiting.{Waiting}
 use Rattle.qc_cids.specs.Steps as ids
 use Rattle.qc_cids.specs.declared.connection_ids.ConnectionIds.{ConnectionIds}
+use Rattle.qc_datagrams.specs.Steps as datagrams
+use Rattle.qc_datagrams.specs.declared.datagrams.Datagrams.{Datagrams}
+use Rattle.qc_state.specs.Datagrams.{shrunk_by}
 use Rattle.qc_state.specs.Ids.{fired_ids, lost_ids}
-use Rattle.qc_state.specs.Lower.{ids_stepped, packets_settled, streams_stepped, timer_fired}
-use Rattle.qc_state.specs.Moves.{Ack, Fire, Tell, move_to, armed_after, state_move, numbers_move, keys_move, life_move, paths_move, timers_move, waiting_move, setup_move, lower_move, deeds_move}
+use Rattle.qc_state.specs.Lower.{datagrams_stepped, ids_stepped, packets_settled, streams_stepped, timer_fired}
+use Rattle.qc_state.specs.Moves.{Ack, Fire, Tell, move_to, armed_after, shrunk_steps, state_move, numbers_move, keys_move, life_move, paths_move, timers_move, waiting_move, setup_move, lower_move, deeds_move}
 use Rattle.qc_state.specs.Numbers.{began_at, next_number, number_acked}
 use Rattle.qc_state.specs.Paths.{is_blocked, path_kept}
 use Rattle.qc_state.specs.Receiving.{acked_after, rearmed_after, settled_after}
@@ -68,22 +71,32 @@ module _ {t : Types} {R : Type 0} (m : Meaning t) (stream : R → Stream) where
   fired_held v w time blocked around after same as_stands is_around is =
       fired_is m (ideal stream v) time blocked around after as_stands is_around (is ∙ ap (λ (x : Held t R). timeout_after m.control time around x.lower.recovery x.paths.current.kept) same)
 
-  -- the streams step behind the packets, and the ids behind them
-  stepped : (l l' : Lower t.S) (x : StreamsState) (xs : List Step) (y : ConnectionIds) (ys : List ids.Step) → l ≡ l' → x ≡ streams.after xs l.streams → y ≡ ids.after ys l.ids →
-      record l { streams = x; ids = y } ≡ ids_stepped ys (streams_stepped xs l')
-  unfolding ids_stepped streams_stepped
-  stepped l l' x xs y ys same is told =
-      ap (λ (z : StreamsState). record l { streams = z; ids = y }) is ∙ ap (λ (z : ConnectionIds). record l { streams = streams.after xs l.streams; ids = z }) told
-      ∙ ap (λ (k : Lower t.S). record k { streams = streams.after xs k.streams; ids = ids.after ys k.ids }) same
+  -- the streams step behind the packets, the ids behind them, and the datagrams last
+  stepped : (l l' : Lower t.S) (x : StreamsState) (xs : List Step) (y : ConnectionIds) (ys : List ids.Step) (d : Datagrams) (ds : List datagrams.Step) → l ≡ l' → x ≡ streams.after xs l.streams → y ≡ ids.after ys l.ids → d ≡ datagrams.after ds l.datagrams →
+      record l { streams = x; ids = y; datagrams = d } ≡ datagrams_stepped ds (ids_stepped ys (streams_stepped xs l'))
+  unfolding datagrams_stepped ids_stepped streams_stepped
+  stepped l l' x xs y ys d ds same is told left =
+      ap (λ (z : StreamsState). record l { streams = z; ids = y; datagrams = d }) is ∙ ap (λ (z : ConnectionIds). record l { streams = streams.after xs l.streams; ids = z; datagrams = d }) told
+      ∙ ap (λ (z : Datagrams). record l { streams = streams.after xs l.streams; ids = ids.after ys l.ids; datagrams = z }) left
+      ∙ ap (λ (k : Lower t.S). record k { streams = streams.after xs k.streams; ids = ids.after ys k.ids; datagrams = datagrams.after ds k.datagrams }) same
+
+  -- the steps of the datagrams, by what is kept of the path before and behind
+  shrinks : (v : Held t R) (before : ℕ) (kept left : PathData t.C) (l : Lower t.S) (d : Datagrams) → before ≡ v.paths.current.kept.mtud.current → kept ≡ left → d ≡ datagrams.after (shrunk_by before (record v.paths.current { kept = kept }) v.setup.peer) l.datagrams →
+      d ≡ datagrams.after (shrunk_steps left (ideal stream v)) l.datagrams
+  unfolding ideal_setup
+  shrinks v before kept left l d was is_kept is =
+      is ∙ ap (λ (n : ℕ). datagrams.after (shrunk_by n (record v.paths.current { kept = kept }) v.setup.peer) l.datagrams) was
+      ∙ ap (λ (k : PathData t.C). datagrams.after (shrunk_by v.paths.current.kept.mtud.current (record v.paths.current { kept = k }) v.setup.peer) l.datagrams) is_kept
 
   -- the groups that change are those of the move
-  pub settled_parts : (r : Result Bool AllocError) (v w : Held t R) (time : ℕ) (id : SpaceId) (ack : AckValue) (after : After t.C) (numbers : Numbers) (waiting : Waiting) (lower : Lower t.S) (x : StreamsState) (z : ConnectionIds) (kept : PathData t.C) → w ≡ v →
-      after ≡ settled_by m time id ack (ideal stream v) → kept ≡ after.path → lower ≡ packets_settled w.lower after → x ≡ streams.after (acked_steps after.acked ++ lost_steps after.lost) lower.streams → z ≡ ids.after (lost_ids after.lost) lower.ids → numbers ≡ number_acked w.numbers id ack.largest → OnOk r (waiting ≡ packets_lost (packets_acked w.waiting id after.acked) id after.lost) →
-      OnOk r (ideal stream (record w { numbers = numbers; paths = record w.paths { current = record w.paths.current { kept = kept } }; waiting = waiting; lower = record lower { streams = x; ids = z } }) ≡ state_move (Ack id ack.largest (settled_by m time id ack (ideal stream v))) (ideal stream v))
+  pub settled_parts : (r : Result Bool AllocError) (v w : Held t R) (time : ℕ) (id : SpaceId) (ack : AckValue) (after : After t.C) (numbers : Numbers) (waiting : Waiting) (lower : Lower t.S) (x : StreamsState) (z : ConnectionIds) (d : Datagrams) (before : ℕ) (kept : PathData t.C) → w ≡ v →
+      after ≡ settled_by m time id ack (ideal stream v) → kept ≡ after.path → lower ≡ packets_settled w.lower after → x ≡ streams.after (acked_steps after.acked ++ lost_steps after.lost) lower.streams → z ≡ ids.after (lost_ids after.lost) lower.ids →
+      before ≡ w.paths.current.kept.mtud.current → d ≡ datagrams.after (shrunk_by before (record w.paths.current { kept = kept }) w.setup.peer) lower.datagrams → numbers ≡ number_acked w.numbers id ack.largest → OnOk r (waiting ≡ packets_lost (packets_acked w.waiting id after.acked) id after.lost) →
+      OnOk r (ideal stream (record w { numbers = numbers; paths = record w.paths { current = record w.paths.current { kept = kept } }; waiting = waiting; lower = record lower { streams = x; ids = z; datagrams = d } }) ≡ state_move (Ack id ack.largest (settled_by m time id ack (ideal stream v))) (ideal stream v))
   unfolding state_move numbers_move keys_move life_move paths_move timers_move waiting_move setup_move lower_move path_kept ideal_setup
-  settled_parts (Ok newly) v w time id ack after numbers waiting lower x z kept same is is_kept is_lower is_streams is_ids is_numbers is_waiting =
-      let below = stepped lower (packets_settled w.lower after) x (acked_steps after.acked ++ lost_steps after.lost) z (lost_ids after.lost) is_lower is_streams is_ids in
-      subst (λ (y : Held t R). ideal stream (record w { numbers = numbers; paths = record w.paths { current = record w.paths.current { kept = kept } }; waiting = waiting; lower = record lower { streams = x; ids = z } }) ≡ state_move (Ack id ack.largest after) (ideal stream y)) same
+  settled_parts (Ok newly) v w time id ack after numbers waiting lower x z d before kept same is is_kept is_lower is_streams is_ids was is_datagrams is_numbers is_waiting =
+      let below = stepped lower (packets_settled w.lower after) x (acked_steps after.acked ++ lost_steps after.lost) z (lost_ids after.lost) d (shrunk_steps after.path (ideal stream w)) is_lower is_streams is_ids (shrinks w before kept after.path lower d was is_kept is_datagrams) in
+      subst (λ (y : Held t R). ideal stream (record w { numbers = numbers; paths = record w.paths { current = record w.paths.current { kept = kept } }; waiting = waiting; lower = record lower { streams = x; ids = z; datagrams = d } }) ≡ state_move (Ack id ack.largest after) (ideal stream y)) same
       (λ i. record {
         numbers = is_numbers i;
         keys = w.keys;
@@ -95,15 +108,16 @@ module _ {t : Types} {R : Type 0} (m : Meaning t) (stream : R → Stream) where
         lower = below i;
       })
       ∙ ap (λ (x : After t.C). state_move (Ack id ack.largest x) (ideal stream v)) is
-  settled_parts (Err e) v w time id ack after numbers waiting lower x z kept same is is_kept is_lower is_streams is_ids is_numbers is_waiting = tt
+  settled_parts (Err e) v w time id ack after numbers waiting lower x z d before kept same is is_kept is_lower is_streams is_ids was is_datagrams is_numbers is_waiting = tt
 
-  pub fired_parts : (r : Result (Unit {0}) AllocError) (v w : Held t R) (time : ℕ) (after : FiredAfter t.C) (waiting : Waiting) (lower : Lower t.S) (x : StreamsState) (z : ConnectionIds) (kept : PathData t.C) → w ≡ v →
-      after ≡ fired_by m time (ideal stream v) → kept ≡ after.path → lower ≡ timer_fired w.lower after → x ≡ streams.after (fired_steps after.fired) lower.streams → z ≡ ids.after (fired_ids after.fired) lower.ids → OnOk r (waiting ≡ fired_in w.waiting after.fired) →
-      OnOk r (ideal stream (record w { paths = record w.paths { current = record w.paths.current { kept = kept } }; waiting = waiting; lower = record lower { streams = x; ids = z } }) ≡ state_move (Fire (fired_by m time (ideal stream v))) (ideal stream v))
+  pub fired_parts : (r : Result (Unit {0}) AllocError) (v w : Held t R) (time : ℕ) (after : FiredAfter t.C) (waiting : Waiting) (lower : Lower t.S) (x : StreamsState) (z : ConnectionIds) (d : Datagrams) (before : ℕ) (kept : PathData t.C) → w ≡ v →
+      after ≡ fired_by m time (ideal stream v) → kept ≡ after.path → lower ≡ timer_fired w.lower after → x ≡ streams.after (fired_steps after.fired) lower.streams → z ≡ ids.after (fired_ids after.fired) lower.ids →
+      before ≡ w.paths.current.kept.mtud.current → d ≡ datagrams.after (shrunk_by before (record w.paths.current { kept = kept }) w.setup.peer) lower.datagrams → OnOk r (waiting ≡ fired_in w.waiting after.fired) →
+      OnOk r (ideal stream (record w { paths = record w.paths { current = record w.paths.current { kept = kept } }; waiting = waiting; lower = record lower { streams = x; ids = z; datagrams = d } }) ≡ state_move (Fire (fired_by m time (ideal stream v))) (ideal stream v))
   unfolding state_move numbers_move keys_move life_move paths_move timers_move waiting_move setup_move lower_move path_kept ideal_setup
-  fired_parts (Ok done) v w time after waiting lower x z kept same is is_kept is_lower is_streams is_ids is_waiting =
-      let below = stepped lower (timer_fired w.lower after) x (fired_steps after.fired) z (fired_ids after.fired) is_lower is_streams is_ids in
-      subst (λ (y : Held t R). ideal stream (record w { paths = record w.paths { current = record w.paths.current { kept = kept } }; waiting = waiting; lower = record lower { streams = x; ids = z } }) ≡ state_move (Fire after) (ideal stream y)) same
+  fired_parts (Ok done) v w time after waiting lower x z d before kept same is is_kept is_lower is_streams is_ids was is_datagrams is_waiting =
+      let below = stepped lower (timer_fired w.lower after) x (fired_steps after.fired) z (fired_ids after.fired) d (shrunk_steps after.path (ideal stream w)) is_lower is_streams is_ids (shrinks w before kept after.path lower d was is_kept is_datagrams) in
+      subst (λ (y : Held t R). ideal stream (record w { paths = record w.paths { current = record w.paths.current { kept = kept } }; waiting = waiting; lower = record lower { streams = x; ids = z; datagrams = d } }) ≡ state_move (Fire after) (ideal stream y)) same
       (λ i. record {
         numbers = w.numbers;
         keys = w.keys;
@@ -115,7 +129,7 @@ module _ {t : Types} {R : Type 0} (m : Meaning t) (stream : R → Stream) where
         lower = below i;
       })
       ∙ ap (λ (x : FiredAfter t.C). state_move (Fire x) (ideal stream v)) is
-  fired_parts (Err e) v w time after waiting lower x z kept same is is_kept is_lower is_streams is_ids is_waiting = tt
+  fired_parts (Err e) v w time after waiting lower x z d before kept same is is_kept is_lower is_streams is_ids was is_datagrams is_waiting = tt
 
 -- of entries of which there are none, none is newly acknowledged
 some_entries : (x : Entry) (acked : List Entry) → not (length (x ∷ acked) == 0) ≡ true

@@ -1,9 +1,9 @@
-//! The application's datagrams: what is sent, and what is taken of those that came (RFC 9221).
+//! The application's datagrams: what is sent, what is taken of those that came, and what no longer fits (RFC 9221).
 
 ghost use Rattle.std.specs.Prelude.{◌≡◌, ◌++◌, [], ◌∷◌, true, IfOk, OnOk, option_to_list};
 ghost use Rattle.qc_datagrams.specs.Datagrams.{send_refusal};
 ghost use Rattle.qc_datagrams.specs.Steps.{Sent, Taken, after};
-ghost use Rattle.qc_state.specs.Datagrams.{frame_size_of, sent_answer, taken_answer};
+ghost use Rattle.qc_state.specs.Datagrams.{frame_size_of, limit_on, sent_answer, shrunk_by, taken_answer};
 ghost use Rattle.qc_state.specs.Moves.{Post, ReportAllHeard, state_move};
 ghost use Rattle.qc_state.specs.Run.{datagram_limit};
 ghost use Rattle.qc_state.specs.View.{ideal};
@@ -12,7 +12,8 @@ use crate::state::Core;
 use bytes::Bytes;
 use qc_datagrams::{Datagrams, SendRefusal, max_size};
 use qc_params::TransportParameters;
-use qc_state::{Answer, Body, Events, Refusal, Suite};
+use qc_path::Controller;
+use qc_state::{Answer, Body, Events, Path, Refusal, Suite};
 use std::alloc::{AllocError, Global};
 
 /// A datagram is sent, for which the oldest are dropped that wait; it may have `most` bytes, where the peer takes any. Answers why it is
@@ -79,17 +80,39 @@ fn frame_size(peer: &Option<TransportParameters>) -> Option<u64>
     }
 }
 
+/// How many bytes a datagram of the application may have on a path. None exactly where the peer takes none, or its parameters aren't known.
+fn limit_on<C: Controller>(path: &Path<C>, peer: &Option<TransportParameters>) -> Option<u64>
+    ensures { result ≡ limit_on path.now peer.now }
+{
+    max_size(path.most(), path.remote_cid.len(), frame_size(peer))
+}
+
+/// Where a path takes smaller datagrams than before, those of the application that are to be sent and no longer fit are dropped. `before` is
+/// the size that its search had found before.
+#[tactic(auto, unfolding(qc_state::specs::Datagrams::shrunk_by, qc_datagrams::specs::Steps::after, qc_datagrams::specs::Steps::after_step))]
+pub(crate) fn shrink<C: Controller>(
+    datagrams: &mut Datagrams,
+    before: u16,
+    path: &Path<C>,
+    peer: &Option<TransportParameters>,
+)
+    ensures { datagrams.new ≡ after (shrunk_by before path.now peer.now) datagrams.old }
+{
+    if path.kept.mtud.current_mtu() < before {
+        match limit_on(path, peer) {
+            None => {}
+            Some(most) => datagrams.drop_longer(most),
+        }
+    }
+}
+
 impl<U: Suite> Core<U> {
     /// How many bytes a datagram of the application may have. None exactly where the peer takes none, or its parameters aren't known.
     #[tactic(auto, unfolding(qc_state::specs::Run::datagram_limit, qc_state::specs::Setup::ideal_setup))]
     pub fn datagram_limit(&self) -> Option<u64>
         ensures { result ≡ datagram_limit (ideal U.Random.stream self.now) }
     {
-        max_size(
-            self.path_size(),
-            self.paths.current.remote_cid.len(),
-            frame_size(&self.setup.peer),
-        )
+        limit_on(&self.paths.current, &self.setup.peer)
     }
 
     /// The application sends a datagram; the oldest that wait are dropped for it where there is no room. Want of memory is the only refusal

@@ -32,7 +32,7 @@ ghost use Rattle.qc_state.specs.Ids.{AllNext};
 ghost use Rattle.qc_state.specs.View.{at, ideal, held};
 ghost use Rattle.qc_state.specs.Taking.{TakenPart};
 
-use crate::datagrams::send_datagram;
+use crate::datagrams::{send_datagram, shrink};
 use crate::handing::hand;
 use crate::packets::{accept_on, enter, set_accepted, settle_in, tell_waiting, use_number};
 use crate::recovering::shows_validated;
@@ -307,7 +307,8 @@ impl<U: Suite> Core<U> {
         self.paths.received(bytes);
     }
 
-    /// The peer acknowledged packets. Answers whether some of them are newly acknowledged. Want of memory is the only refusal.
+    /// The peer acknowledged packets; where that shows a black hole, datagrams that no longer fit are dropped. Answers whether some packets are
+    /// newly acknowledged. Want of memory is the only refusal.
     pub fn do_ack(
         &mut self,
         alloc: Global,
@@ -323,12 +324,19 @@ impl<U: Suite> Core<U> {
         let around = self.around(blocked, shows_validated(space));
         let next = self.numbers.next(space);
         let began = self.numbers.began(space);
+        let before = self.paths.current.kept.mtud.current_mtu();
         let path = &mut self.paths.current.kept;
         let settled = self
             .lower
             .settle(alloc, now, space, next, began, ack, &around, path)?;
         settle(&mut self.lower.streams, &settled)?;
         id_settling::settle(&mut self.lower.ids, &settled)?;
+        shrink(
+            &mut self.lower.datagrams,
+            before,
+            &self.paths.current,
+            &self.setup.peer,
+        );
         settle_in(
             &mut self.numbers,
             &mut self.waiting,
@@ -338,15 +346,23 @@ impl<U: Suite> Core<U> {
         )
     }
 
-    /// The loss timer fires: packets are lost, or probes are due. Want of memory is the only refusal.
+    /// The loss timer fires: packets are lost, or probes are due; where that shows a black hole, datagrams that no longer fit are dropped. Want of
+    /// memory is the only refusal.
     pub fn do_fire(&mut self, now: Instant) -> Result<(), AllocError>
         ensures { OnOk result ((ideal U.Random.stream self.new) ≡ state_move (Fire (fired_by ⟦<U as Means>⟧.meaning now (ideal U.Random.stream self.old))) (ideal U.Random.stream self.old)) }
     {
         let blocked = self.is_blocked();
         let around = self.around(blocked, false);
+        let before = self.paths.current.kept.mtud.current_mtu();
         let fired = self.lower.fire(now, &around, &mut self.paths.current.kept)?;
         fire(&mut self.lower.streams, &fired)?;
         id_settling::fire(&mut self.lower.ids, &fired)?;
+        shrink(
+            &mut self.lower.datagrams,
+            before,
+            &self.paths.current,
+            &self.setup.peer,
+        );
         self.waiting.fire(fired)
     }
 

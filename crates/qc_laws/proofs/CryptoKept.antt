@@ -213,7 +213,7 @@ module _ {t : Types} where
 
   -- in the space of an ACK
   ack_here : (m : Meaning t) (n : ℕ) (after : After t.C) (s : View t) (id : SpaceId) (before : List Entry) → IsSettledBy m id after s → CryptoKept id before s → CryptoKept id (before ++ after.acked) (state_move (Ack id n after) s)
-  unfolding state_move waiting_move lower_move streams_stepped keys_move life_move packets_lost packets_acked packets_settled settled_by frames_sealed ids_stepped
+  unfolding state_move waiting_move lower_move datagrams_stepped streams_stepped keys_move life_move packets_lost packets_acked packets_settled settled_by frames_sealed ids_stepped
   ack_here m n after s id before settled h =
       let w : SpaceWaiting = acked_in (space_of s.waiting.spaces id) after.acked in
       let as_was : w.crypto ≡ crypto_of id s = acked_crypto (space_of s.waiting.spaces id) after.acked in
@@ -230,7 +230,7 @@ module _ {t : Types} where
 
   -- in another one
   ack_apart : (m : Meaning t) (space : SpaceId) (n : ℕ) (after : After t.C) (s : View t) (id : SpaceId) (before : List Entry) → IsSettledBy m space after s → is_space id space ≡ false → CryptoKept id before s → CryptoKept id (before ++ []) (state_move (Ack space n after) s)
-  unfolding state_move waiting_move lower_move streams_stepped keys_move life_move packets_lost packets_acked packets_settled settled_by frames_sealed ids_stepped
+  unfolding state_move waiting_move lower_move datagrams_stepped streams_stepped keys_move life_move packets_lost packets_acked packets_settled settled_by frames_sealed ids_stepped
   ack_apart m space n after s id before settled other h = same_holds id before s (state_move (Ack space n after) s) (record {
     more = more_same (crypto_of id s) _ (settled_other id space s.waiting.spaces after.acked after.lost other);
     flight = ap (λ (a : After t.C). (recovery.space_of id a.recovery).flight) settled.is ∙ ack_other m.control _ id space _ _ _ _ _ s.lower.recovery s.paths.current.kept other;
@@ -249,7 +249,7 @@ module _ {t : Types} where
       (ack_apart m space n after s id before settled other h)
 
   fire_holds : (m : Meaning t) (after : FiredAfter t.C) (s : View t) (id : SpaceId) (before : List Entry) → IsFiredBy m after s → CryptoKept id before s → CryptoKept id (before ++ []) (state_move (Fire after) s)
-  unfolding state_move waiting_move lower_move streams_stepped keys_move life_move timer_fired fired_by frames_sealed ids_stepped
+  unfolding state_move waiting_move lower_move datagrams_stepped streams_stepped keys_move life_move timer_fired fired_by frames_sealed ids_stepped
   fire_holds m after s id before fires h =
       fire_kept after.fired s.waiting s.lower.recovery after.recovery s.keys.highest (is_open s.life.state) (has_keys s.keys id) id before
       (subst (λ (a : FiredAfter t.C). FiresIn id s.lower.recovery a.recovery a.fired) (sym fires.is) (fired_flight m.control id _ _ s.lower.recovery s.paths.current.kept)) h

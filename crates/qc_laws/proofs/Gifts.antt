@@ -44,7 +44,7 @@ use Rattle.qc_state.specs.StreamFrames.{acked_steps, lost_steps}
 use Rattle.qc_state.specs.Streams.{steps_of_frame, streams_stop}
 use Rattle.qc_streams.specs.Waits as steps
 use Rattle.qc_laws.proofs.StreamCalls.{handed_told, heard_state, named_state, retired_state}
-use Rattle.qc_state.specs.Datagrams.{tells_datagram}
+use Rattle.qc_state.specs.Datagrams.{shrunk_by, tells_datagram}
 use Rattle.qc_datagrams.specs.Steps as datagram
 use Rattle.qc_cids.specs.Cids.{asks_one, next_token, token_by}
 use Rattle.qc_cids.specs.Steps as cids
@@ -238,7 +238,7 @@ module _ {t : Types} where
     life = h.life;
     paths = ap (λ (p : Paths t.C). path_kept p after.path) h.paths;
     setup = h.setup;
-    lower = ap (λ (l : Lower t.S). ids_stepped (lost_ids after.lost) (streams_stepped (acked_steps after.acked ++ lost_steps after.lost) (packets_settled l after))) h.lower;
+    lower = λ j. datagrams_stepped (shrunk_by (h.paths j).current.kept.mtud.current (record (h.paths j).current { kept = after.path }) (h.setup j).peer) (ids_stepped (lost_ids after.lost) (streams_stepped (acked_steps after.acked ++ lost_steps after.lost) (packets_settled (h.lower j) after)));
   }
 
   along_hand : (f : FrameValue) (v : View t) (a : At t) → Along v a.state → Along (state_move (Hand f) v) (move_to (Hand f) a).state

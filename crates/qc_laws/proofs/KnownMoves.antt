@@ -253,7 +253,7 @@ expiry_uncalled (Post x) h = absurd h
 expiry_uncalled (Issue time given) h = absurd h
 expiry_uncalled _ h = tt
 
-sending_uncalled : {t : Types} (x : Move t) → IsUntold x → IsUncalled x
+pub sending_uncalled : {t : Types} (x : Move t) → IsUntold x → IsUncalled x
 sending_uncalled (Call x) h = absurd h
 sending_uncalled (Post x) h = absurd h
 sending_uncalled (Issue time given) h = absurd h

@@ -1,6 +1,7 @@
 -- The datagrams of the application over a run are the fold of their steps.
 use Rattle.std.proofs.Common.{◌≡◌, ℕ, ◌+◌, List, [], ◌∷◌, ◌++◌, refl, ap, sym, ◌∙◌, subst, Bool, true, false, Some, None, if◌then◌else◌, append_assoc, append-nil}
-use Rattle.std.specs.Prelude.{map, is_none, option_to_list, Option}
+use Rattle.std.proofs.lemmas.List.Folds.{list_all-append, list_any-append}
+use Rattle.std.specs.Prelude.{◌||◌, ◌&&◌, map, is_none, nat_lt, option_to_list, Option}
 use Rattle.std.specs.Option.{option_map}
 use Rattle.std.specs.declared.net.SocketAddr.{SocketAddr}
 use Rattle.qc_base.specs.declared.side.SpaceId.{SpaceId}
@@ -9,6 +10,7 @@ use Rattle.qc_datagrams.specs.Steps.{Step, Came, Sealed, Sent, Taken, after, aft
 use Rattle.qc_flight.specs.declared.sent.SentPacket.{SentPacket}
 use Rattle.qc_frame.specs.Frame.{FrameValue}
 use Rattle.qc_frame.specs.declared.frames.FrameOf.TheVariants as frames
+use Rattle.qc_params.specs.declared.params.TransportParameters.{TransportParameters}
 use Rattle.qc_streams.specs.declared.events.StreamEvent.{StreamEvent}
 use Rattle.qc_state.specs.declared.deeds.Did.{Did}
 use Rattle.qc_state.specs.declared.deeds.Did.TheVariants as did
@@ -20,19 +22,21 @@ use Rattle.qc_state.specs.declared.input.Input.{Input}
 use Rattle.qc_state.specs.declared.input.Input.TheVariants as input
 use Rattle.qc_state.specs.declared.life.ConnectionError.{ConnectionError}
 use Rattle.qc_state.specs.declared.life.Life.{Life}
+use Rattle.qc_state.specs.declared.life.Close.{Close}
 use Rattle.qc_state.specs.declared.lower.Lower.{Lower}
+use Rattle.qc_state.specs.declared.paths.Path.{Path}
 use Rattle.qc_state.specs.declared.trace.Step.{Step as TraceStep}
-use Rattle.qc_state.specs.Datagrams.{datagram_steps, sealed_datagrams, tells_datagram, told_by, told_by_all}
+use Rattle.qc_state.specs.Datagrams.{AllOldest, datagram_steps, drops_to, limit_on, sealed_datagram, sealed_datagrams, shrunk_by, tells_datagram, told_by, told_by_all}
 use Rattle.qc_state.specs.Flight.{flown_packet}
 use Rattle.qc_state.specs.Forms.{number_space}
-use Rattle.qc_state.specs.Life.{connected_event, data_ready, datagram_heard, event_if, identifiers_wanted, life_closed, life_drained, life_established, life_raised, lost_event, ready_event, reason_given, token_learned, ready_reported, connected_reported, all_heard_reported, lost_reported, notices_reported, drained_reported, retirement_told, token_told}
+use Rattle.qc_state.specs.Life.{is_open, connected_event, data_ready, datagram_heard, event_if, identifiers_wanted, life_closed, life_drained, life_established, life_raised, lost_event, ready_event, reason_given, token_learned, ready_reported, connected_reported, all_heard_reported, lost_reported, notices_reported, drained_reported, retirement_told, token_told}
 use Rattle.qc_state.specs.Lower.{bytes_came, datagrams_stepped, events_told, flight_dropped, frame_handed, limits_learned, packet_flown, packets_settled, session_read, session_wrote, streams_closed, streams_stepped, timer_fired, frames_sealed, ids_stepped}
-use Rattle.qc_state.specs.Moves.{Begin, Call, Give, Hand, IsTold, MayMove, Move, Post, ReportReady, ReportConnected, ReportHeard, ReportAllHeard, ReportLost, ReportNotice, ReportNotices, ReportDrained, ReportStream, ReportStreams, Seal, Take, Tell, deeds_move, life_move, lower_move, move_to, state_move, told_to_streams, Insert, Switch, Retire}
+use Rattle.qc_state.specs.Moves.{Ack, Ask, Begin, Call, Finish, Fire, Give, Hand, IsTold, MayMove, Move, Post, Shut, Spend, ReportReady, ReportConnected, ReportHeard, ReportAllHeard, ReportLost, ReportNotice, ReportNotices, ReportDrained, ReportStream, ReportStreams, Seal, Take, Tell, deeds_move, life_move, lower_move, move_to, shrunk_steps, state_move, told_to_streams, Insert, Switch, Retire}
 use Rattle.qc_state.specs.Numbers.{next_number}
 use Rattle.qc_state.specs.Polls.{waiting_events}
-use Rattle.qc_state.specs.Run.{IsAllowed, IsStep, Run, answer_of, began, called, called_all, datagram_limit, input_after, reported, time_of}
+use Rattle.qc_state.specs.Run.{IsAllowed, IsStep, Run, answer_of, began, called, called_all, close_after, datagram_limit, input_after, reported, time_of}
 use Rattle.qc_state.specs.Run as run
-use Rattle.qc_state.specs.Sending.{Choice, packet_size}
+use Rattle.qc_state.specs.Sending.{Choice, packet_size, spent_after, told_sent}
 use Rattle.qc_state.specs.Streams.{events_of}
 use Rattle.qc_streams.specs.Waits as streams
 use Rattle.qc_state.specs.Types.{Types, Meaning}
@@ -40,11 +44,11 @@ use Rattle.qc_state.specs.View.{View, At}
 use Rattle.qc_state.proofs.DatagramSteps.{posts_append}
 use Rattle.qc_state.proofs.Probed.{begun_streams}
 use Rattle.qc_state.proofs.RoomTold.{told_append}
-use Rattle.qc_state.proofs.Telling.{told_appends}
-use Rattle.qc_state.proofs.Transmitted.{IsSealable}
-use Rattle.qc_laws.specs.PostLaws.{AreOfDeeds, ArePosts, FoldsPosts, MakesPosts, heard_in}
+use Rattle.qc_state.proofs.Telling.{open_rank, told_appends}
+use Rattle.qc_state.proofs.Transmitted.{IsSealable, IsUntold, transmit_told}
+use Rattle.qc_laws.specs.PostLaws.{AreOfDeeds, ArePosts, AreShrunk, FoldsPosts, MakesPosts, NoneShrunk, heard_in, is_shrunk}
 use Rattle.qc_laws.specs.StreamsLaws.{with_steps}
-use Rattle.qc_laws.proofs.KnownMoves.{IsElsewhere, IsKnownMove, IsUncalled, is_called, known_other}
+use Rattle.qc_laws.proofs.KnownMoves.{IsElsewhere, IsKnownMove, IsUncalled, is_called, known_other, sending_known, sending_uncalled}
 use Rattle.qc_laws.proofs.StreamCalls.{called_input}
 use Rattle.qc_cids.specs.Cids.{asks_one, next_token, token_by}
 use Rattle.qc_ids.specs.LocalCids.{may_retire}
@@ -52,21 +56,67 @@ use Rattle.qc_state.specs.Ids.{active_limit}
 
 -- ---- steps and events, one list behind another
 
+-- those that drop what no longer fits
+shrunk_append : (xs ys : List Step) → AreShrunk xs → AreShrunk ys → AreShrunk (xs ++ ys)
+shrunk_append xs ys h k = list_all-append is_shrunk xs ys ∙ (λ i. h i && k i)
+
+none_append : (xs ys : List Step) → NoneShrunk xs → NoneShrunk ys → NoneShrunk (xs ++ ys)
+none_append xs ys h k = list_any-append is_shrunk xs ys ∙ (λ i. h i || k i)
+
+-- in front of what deeds make
+shrunk_before : (ds : List Did) (xs ys : List Step) (d : Datagrams) → AreShrunk xs → AreOfDeeds ds ys (after xs d) → AreOfDeeds ds (xs ++ ys) d
+shrunk_before [] xs ys d h g = shrunk_append xs ys h g
+shrunk_before (did.Gave layer.Streams body ∷ ds) xs ys d h g =
+    let front : List Step = datagram_steps g.1 in (
+      xs ++ g.0,
+      g.1,
+      g.2,
+      shrunk_append xs g.0 h g.3,
+      g.4,
+      ap (λ (zs : List Step). xs ++ zs) g.5 ∙ sym (append_assoc xs g.0 (front ++ g.2)),
+      subst (λ (x : Datagrams). AreOfDeeds ds g.2 (after front x)) (sym (posts_append xs g.0 d)) g.6,
+    )
+shrunk_before (did.Gave layer.Session body ∷ ds) xs ys d h g = shrunk_before ds xs ys d h g
+shrunk_before (did.Gave layer.Recovery body ∷ ds) xs ys d h g = shrunk_before ds xs ys d h g
+shrunk_before (did.Gave layer.Life body ∷ ds) xs ys d h g = shrunk_before ds xs ys d h g
+shrunk_before (did.Gave layer.Ids body ∷ ds) xs ys d h g = shrunk_before ds xs ys d h g
+shrunk_before (did.Sealed space n epoch early fs ∷ ds) xs ys d h g =
+    let front : List Step = sealed_datagrams fs in
+    let same : after g.0 (after xs d) ≡ after (xs ++ g.0) d = sym (posts_append xs g.0 d) in (
+      xs ++ g.0,
+      g.1,
+      shrunk_append xs g.0 h g.2,
+      ap (λ (zs : List Step). xs ++ zs) g.3 ∙ sym (append_assoc xs g.0 (front ++ g.1)),
+      subst (λ (x : Datagrams). AllOldest fs x) same g.4,
+      subst (λ (x : Datagrams). AreOfDeeds ds g.1 (after front x)) same g.5,
+    )
+shrunk_before (did.Piece space number v ∷ ds) xs ys d h g = shrunk_before ds xs ys d h g
+shrunk_before (did.Rose life ∷ ds) xs ys d h g = shrunk_before ds xs ys d h g
+shrunk_before (did.Lost why ∷ ds) xs ys d h g = shrunk_before ds xs ys d h g
+shrunk_before (did.Quiet why ∷ ds) xs ys d h g = shrunk_before ds xs ys d h g
+
+-- what steps leave one list behind another
+pub three_leave : (made shrunk front rest : List Step) (d : Datagrams) → made ≡ shrunk ++ (front ++ rest) → after made d ≡ after rest (after front (after shrunk d))
+three_leave made shrunk front rest d is = ap (λ (zs : List Step). after zs d) is ∙ posts_append shrunk (front ++ rest) d ∙ posts_append front rest (after shrunk d)
+
+three_append : (made shrunk front rest ys : List Step) → made ≡ shrunk ++ (front ++ rest) → made ++ ys ≡ shrunk ++ (front ++ (rest ++ ys))
+three_append made shrunk front rest ys is =
+    ap (λ (zs : List Step). zs ++ ys) is ∙ append_assoc shrunk (front ++ rest) ys ∙ ap (λ (zs : List Step). shrunk ++ zs) (append_assoc front rest ys)
+
 deeds_append : (ds es : List Did) (xs ys : List Step) (d : Datagrams) → AreOfDeeds ds xs d → AreOfDeeds es ys (after xs d) → AreOfDeeds (ds ++ es) (xs ++ ys) d
-unfolding after
-deeds_append [] es xs ys d h g = subst (λ (zs : List Step). AreOfDeeds es (zs ++ ys) d) (sym h) (subst (λ (zs : List Step). AreOfDeeds es ys (after zs d)) h g)
+deeds_append [] es xs ys d h g = shrunk_before es xs ys d h g
 deeds_append (did.Gave layer.Streams body ∷ ds) es xs ys d h g =
-    let front : List Step = datagram_steps h.0 in
-    let behind : AreOfDeeds es ys (after h.1 (after front d)) = subst (λ (x : Datagrams). AreOfDeeds es ys x) (ap (λ (zs : List Step). after zs d) h.3 ∙ posts_append front h.1 d) g in
-    (h.0, h.1 ++ ys, h.2, ap (λ (zs : List Step). zs ++ ys) h.3 ∙ append_assoc front h.1 ys, deeds_append ds es h.1 ys (after front d) h.4 behind)
+    let front : List Step = datagram_steps h.1 in
+    let behind : AreOfDeeds es ys (after h.2 (after front (after h.0 d))) = subst (λ (x : Datagrams). AreOfDeeds es ys x) (three_leave xs h.0 front h.2 d h.5) g in
+    (h.0, h.1, h.2 ++ ys, h.3, h.4, three_append xs h.0 front h.2 ys h.5, deeds_append ds es h.2 ys (after front (after h.0 d)) h.6 behind)
 deeds_append (did.Gave layer.Session body ∷ ds) es xs ys d h g = deeds_append ds es xs ys d h g
 deeds_append (did.Gave layer.Recovery body ∷ ds) es xs ys d h g = deeds_append ds es xs ys d h g
 deeds_append (did.Gave layer.Life body ∷ ds) es xs ys d h g = deeds_append ds es xs ys d h g
 deeds_append (did.Gave layer.Ids body ∷ ds) es xs ys d h g = deeds_append ds es xs ys d h g
 deeds_append (did.Sealed space n epoch early fs ∷ ds) es xs ys d h g =
     let front : List Step = sealed_datagrams fs in
-    let behind : AreOfDeeds es ys (after h.0 (after front d)) = subst (λ (x : Datagrams). AreOfDeeds es ys x) (ap (λ (zs : List Step). after zs d) h.1 ∙ posts_append front h.0 d) g in
-    (h.0 ++ ys, ap (λ (zs : List Step). zs ++ ys) h.1 ∙ append_assoc front h.0 ys, h.2, deeds_append ds es h.0 ys (after front d) h.3 behind)
+    let behind : AreOfDeeds es ys (after h.1 (after front (after h.0 d))) = subst (λ (x : Datagrams). AreOfDeeds es ys x) (three_leave xs h.0 front h.1 d h.3) g in
+    (h.0, h.1 ++ ys, h.2, three_append xs h.0 front h.1 ys h.3, h.4, deeds_append ds es h.1 ys (after front (after h.0 d)) h.5 behind)
 deeds_append (did.Piece space number v ∷ ds) es xs ys d h g = deeds_append ds es xs ys d h g
 deeds_append (did.Rose life ∷ ds) es xs ys d h g = deeds_append ds es xs ys d h g
 deeds_append (did.Lost why ∷ ds) es xs ys d h g = deeds_append ds es xs ys d h g
@@ -151,13 +201,13 @@ flown_datagrams false l id n packet = refl
 
 -- what is told of a frame is what the steps are that it makes
 frame_came : (frame : FrameValue) (d : Datagrams) → AreOfDeeds (told_to_streams frame) (datagram_steps frame) d
-frame_came (frames.ResetStream id code size) d = (frames.ResetStream id code size, [], refl, refl, refl)
-frame_came (frames.StopSending id code) d = (frames.StopSending id code, [], refl, refl, refl)
-frame_came (frames.Stream id offset fin body) d = (frames.Stream id offset fin body, [], refl, refl, refl)
-frame_came (frames.MaxData limit) d = (frames.MaxData limit, [], refl, refl, refl)
-frame_came (frames.MaxStreamData id limit) d = (frames.MaxStreamData id limit, [], refl, refl, refl)
-frame_came (frames.MaxStreams dir count) d = (frames.MaxStreams dir count, [], refl, refl, refl)
-frame_came (frames.Datagram body) d = (frames.Datagram body, [], refl, refl, refl)
+frame_came (frames.ResetStream id code size) d = ([], frames.ResetStream id code size, [], refl, refl, refl, refl)
+frame_came (frames.StopSending id code) d = ([], frames.StopSending id code, [], refl, refl, refl, refl)
+frame_came (frames.Stream id offset fin body) d = ([], frames.Stream id offset fin body, [], refl, refl, refl, refl)
+frame_came (frames.MaxData limit) d = ([], frames.MaxData limit, [], refl, refl, refl, refl)
+frame_came (frames.MaxStreamData id limit) d = ([], frames.MaxStreamData id limit, [], refl, refl, refl, refl)
+frame_came (frames.MaxStreams dir count) d = ([], frames.MaxStreams dir count, [], refl, refl, refl, refl)
+frame_came (frames.Datagram body) d = ([], frames.Datagram body, [], refl, refl, refl, refl)
 frame_came _ d = refl
 
 frame_told : (frame : FrameValue) (d : Datagrams) → told_by_all (datagram_steps frame) d ≡ (if tells_datagram frame d then DatagramReceived ∷ [] else [])
@@ -175,6 +225,38 @@ told_none (did.Gave layer.Ids body) d h k = refl
 told_none (did.Gave layer.Streams body) d h k = absurd k
 told_none _ d h k = absurd h
 
+-- ---- what no longer fits
+
+-- a path that takes smaller datagrams makes only such steps, of which nothing is told
+drops_are : (smaller : Bool) (most : Option ℕ) → AreShrunk (if smaller then drops_to most else [])
+drops_are true None = refl
+drops_are true (Some most) = refl
+drops_are false most = refl
+
+drops_tell : (smaller : Bool) (most : Option ℕ) (d : Datagrams) → told_by_all (if smaller then drops_to most else []) d ≡ []
+unfolding told_by_all
+drops_tell true None d = refl
+drops_tell true (Some most) d = refl
+drops_tell false most d = refl
+
+shrunk_are : {C : Type 0} (before : ℕ) (path : Path C) (peer : Option TransportParameters) → AreShrunk (shrunk_by before path peer)
+unfolding shrunk_by
+shrunk_are before path peer = drops_are (nat_lt path.kept.mtud.current before) (limit_on path peer)
+
+shrunk_tell : {C : Type 0} (before : ℕ) (path : Path C) (peer : Option TransportParameters) (d : Datagrams) → told_by_all (shrunk_by before path peer) d ≡ []
+unfolding shrunk_by
+shrunk_tell before path peer d = drops_tell (nat_lt path.kept.mtud.current before) (limit_on path peer) d
+
+-- frames that are sealed make none
+sealed_one : (f : FrameValue) → NoneShrunk (sealed_datagram f)
+sealed_one (frames.Datagram body) = refl
+sealed_one _ = refl
+
+sealed_none : (fs : List FrameValue) → NoneShrunk (sealed_datagrams fs)
+unfolding sealed_datagrams
+sealed_none [] = refl
+sealed_none (f ∷ fs) = none_append (sealed_datagram f) (sealed_datagrams fs) (sealed_one f) (sealed_none fs)
+
 module _ {t : Types} where
   heard_wait : (s : View t) → heard_in (waiting_events s) ≡ heard_in s.life.heard
   unfolding waiting_events ready_event connected_event lost_event
@@ -182,20 +264,30 @@ module _ {t : Types} where
 
   -- ---- from one moment of an input to another, where it is no call of the application's
 
-  record Folds (a b : At t) : Type 0 where
+  -- `shrinks` says whether what no longer fits may be dropped
+  record Folds (shrinks : Bool) (a b : At t) : Type 0 where
     pub since : List Did
     pub appended : b.did ≡ a.did ++ since
     pub steps : List Step
     pub leads : b.state.lower.datagrams ≡ after steps a.state.lower.datagrams
     pub are : AreOfDeeds since steps a.state.lower.datagrams
     pub heard : heard_in b.state.life.heard ≡ heard_in a.state.life.heard ++ told_by_all steps a.state.lower.datagrams
+    pub none : shrinks ≡ false → NoneShrunk steps
 
-  folds_here : (a : At t) → Folds a a
+  folds_here : (shrinks : Bool) (a : At t) → Folds shrinks a a
   unfolding after told_by_all
-  folds_here a = record { since = []; appended = sym (append-nil a.did); steps = []; leads = refl; are = refl; heard = sym (append-nil (heard_in a.state.life.heard)) }
+  folds_here shrinks a = record {
+    since = [];
+    appended = sym (append-nil a.did);
+    steps = [];
+    leads = refl;
+    are = refl;
+    heard = sym (append-nil (heard_in a.state.life.heard));
+    none = λ e. refl;
+  }
 
-  folds_next : (a b c : At t) → Folds a b → Folds b c → Folds a c
-  folds_next a b c g h =
+  folds_next : (shrinks : Bool) (a b c : At t) → Folds shrinks a b → Folds shrinks b c → Folds shrinks a c
+  folds_next shrinks a b c g h =
       let d : Datagrams = a.state.lower.datagrams in
       let first : List Event = told_by_all g.steps d in
       record {
@@ -206,37 +298,50 @@ module _ {t : Types} where
         are = deeds_append g.since h.since g.steps h.steps d g.are (subst (λ (x : Datagrams). AreOfDeeds h.since h.steps x) g.leads h.are);
         heard = h.heard ∙ ap (λ (x : Datagrams). heard_in b.state.life.heard ++ told_by_all h.steps x) g.leads ∙ ap (λ (es : List Event). es ++ told_by_all h.steps (after g.steps d)) g.heard
             ∙ append_assoc (heard_in a.state.life.heard) first (told_by_all h.steps (after g.steps d)) ∙ ap (λ (es : List Event). heard_in a.state.life.heard ++ es) (sym (told_append g.steps h.steps d));
+        none = λ e. none_append g.steps h.steps (g.none e) (h.none e);
       }
 
   -- which of their steps a move is
-  abbrev steps_by : Move t → List Step
-  steps_by (Hand frame) = datagram_steps frame
-  steps_by _ = []
+  abbrev steps_by : Move t → View t → List Step
+  steps_by (Hand frame) s = datagram_steps frame
+  steps_by (Ack id n r) s = shrunk_steps r.path s
+  steps_by (Fire r) s = shrunk_steps r.path s
+  steps_by _ s = []
 
-  moved_datagrams : (m : Meaning t) (x : Move t) (s : View t) → IsKnownMove m x s → IsUncalled x → (lower_move x s).datagrams ≡ after (steps_by x) s.lower.datagrams
+  moved_datagrams : (m : Meaning t) (x : Move t) (s : View t) → IsKnownMove m x s → IsUncalled x → (lower_move x s).datagrams ≡ after (steps_by x s) s.lower.datagrams
   unfolding lower_move flight_dropped packets_settled timer_fired bytes_came session_read session_wrote limits_learned frame_handed streams_closed streams_stepped datagrams_stepped after frames_sealed ids_stepped
   moved_datagrams m (Take id fs) s k u = absurd k
   moved_datagrams m (Seal time form n size fs) s k u = absurd k
   moved_datagrams m (Begin id opens) s k u = ap (λ (l : Lower t.S). l.datagrams) (begun_streams id opens s)
   moved_datagrams m (Hand frame) s k u = refl
+  moved_datagrams m (Ack id n r) s k u = refl
+  moved_datagrams m (Fire r) s k u = refl
   moved_datagrams m (Post x) s k u = absurd u
   moved_datagrams m (Call x) s k u = absurd u
   moved_datagrams m ReportStream s k u = absurd k
   moved_datagrams m ReportStreams s k u = absurd k
   moved_datagrams m _ s k u = refl
 
-  moved_came : (m : Meaning t) (x : Move t) (s : View t) → IsKnownMove m x s → MayMove x s → AreOfDeeds (deeds_move x s) (steps_by x) s.lower.datagrams
+  moved_came : (m : Meaning t) (x : Move t) (s : View t) → IsKnownMove m x s → MayMove x s → AreOfDeeds (deeds_move x s) (steps_by x s) s.lower.datagrams
   unfolding deeds_move MayMove
   moved_came m (Hand frame) s k may = frame_came frame s.lower.datagrams
+  moved_came m (Ack id n r) s k may = shrunk_are _ _ s.setup.peer
+  moved_came m (Fire r) s k may = shrunk_are _ _ s.setup.peer
   moved_came m (Tell deed) s k may = told_none deed s.lower.datagrams may k
   moved_came m (Seal time form n size fs) s k may = absurd k
   moved_came m _ s k may = refl
 
-  moved_heard : (m : Meaning t) (x : Move t) (s : View t) → IsKnownMove m x s → heard_in (life_move x s).heard ≡ heard_in s.life.heard ++ told_by_all (steps_by x) s.lower.datagrams
+  -- nothing is told of what no longer fits
+  untold : (before : ℕ) (path : Path t.C) (s : View t) → heard_in s.life.heard ≡ heard_in s.life.heard ++ told_by_all (shrunk_by before path s.setup.peer) s.lower.datagrams
+  untold before path s = sym (append-nil (heard_in s.life.heard)) ∙ ap (λ (es : List Event). heard_in s.life.heard ++ es) (sym (shrunk_tell before path s.setup.peer s.lower.datagrams))
+
+  moved_heard : (m : Meaning t) (x : Move t) (s : View t) → IsKnownMove m x s → heard_in (life_move x s).heard ≡ heard_in s.life.heard ++ told_by_all (steps_by x s) s.lower.datagrams
   unfolding told_by_all life_move life_closed life_drained data_ready life_established token_learned identifiers_wanted life_raised reason_given
   moved_heard m (Take id fs) s k = absurd k
   moved_heard m (Hand frame) s k =
       heard_told (tells_datagram frame s.lower.datagrams) s.life ∙ ap (λ (es : List Event). heard_in s.life.heard ++ es) (sym (frame_told frame s.lower.datagrams))
+  moved_heard m (Ack id n r) s k = untold _ _ s
+  moved_heard m (Fire r) s k = untold _ _ s
   moved_heard m (Give why) s k = ap heard_in (given_heard s.life why (is_none s.life.reason)) ∙ sym (append-nil (heard_in s.life.heard))
   moved_heard m ReportReady s k = absurd k
   moved_heard m ReportConnected s k = absurd k
@@ -252,22 +357,30 @@ module _ {t : Types} where
   moved_heard m ReportDrained s k = absurd k
   moved_heard m _ s k = sym (append-nil (heard_in s.life.heard))
 
-  move_folds : (m : Meaning t) (x : Move t) (a : At t) → IsKnownMove m x a.state → IsUncalled x → MayMove x a.state → Folds a (move_to x a)
+  -- a move of a transmit drops nothing
+  moved_none : (x : Move t) (s : View t) → IsUntold x → NoneShrunk (steps_by x s)
+  moved_none (Hand frame) s h = absurd h
+  moved_none (Ack id n r) s h = absurd h
+  moved_none (Fire r) s h = absurd h
+  moved_none _ s h = refl
+
+  move_folds : (shrinks : Bool) (m : Meaning t) (x : Move t) (a : At t) → IsKnownMove m x a.state → IsUncalled x → MayMove x a.state → (shrinks ≡ false → NoneShrunk (steps_by x a.state)) → Folds shrinks a (move_to x a)
   unfolding move_to state_move
-  move_folds m x a k u may = record {
+  move_folds shrinks m x a k u may none = record {
     since = deeds_move x a.state;
     appended = told_appends a.did (deeds_move x a.state);
-    steps = steps_by x;
+    steps = steps_by x a.state;
     leads = moved_datagrams m x a.state k u;
     are = moved_came m x a.state k may;
     heard = moved_heard m x a.state k;
+    none = none;
   }
 
   -- a packet is taken and sealed: the steps of its DATAGRAM frames, with the deed that they were sealed
-  packet_folds : (time : ℕ) (form : Form) (fs : List FrameValue) (a : At t) → IsSealable time a.state form fs →
-      Folds a (move_to (Seal time form (next_number a.state.numbers (number_space form)) (packet_size a.state form fs) fs) (move_to (Take (number_space form) fs) a))
+  packet_folds : (shrinks : Bool) (time : ℕ) (form : Form) (fs : List FrameValue) (a : At t) → IsSealable time a.state form fs →
+      Folds shrinks a (move_to (Seal time form (next_number a.state.numbers (number_space form)) (packet_size a.state form fs) fs) (move_to (Take (number_space form) fs) a))
   unfolding move_to state_move lower_move streams_stepped datagrams_stepped deeds_move life_move frames_sealed ids_stepped
-  packet_folds time form fs a may =
+  packet_folds shrinks time form fs a may =
       let b : At t = move_to (Take (number_space form) fs) a in
       let n : ℕ = next_number a.state.numbers (number_space form) in
       let size : ℕ = packet_size a.state form fs in
@@ -276,9 +389,10 @@ module _ {t : Types} where
         appended = told_appends a.did (deeds_move (Seal time form n size fs) b.state);
         steps = sealed_datagrams fs;
         leads = flown_datagrams b.state.waiting.close_owed b.state.lower (number_space form) n (flown_packet time size fs);
-        are = ([], sym (append-nil (sealed_datagrams fs)), may.oldest, refl);
+        are = ([], [], refl, sym (append-nil (sealed_datagrams fs)), may.oldest, refl);
         heard = heard_append a.state.life.heard (told_by_all (sealed_datagrams fs) a.state.lower.datagrams)
             ∙ ap (λ (es : List Event). heard_in a.state.life.heard ++ es) (steps_heard (sealed_datagrams fs) a.state.lower.datagrams);
+        none = λ e. sealed_none fs;
       }
 
   -- a call of the streams leaves them
@@ -303,27 +417,50 @@ module _ {t : Types} where
     pub makes : x.did ≡ b.did → MakesPosts i x made s.lower.datagrams
     pub heard : heard_in b.state.life.heard ≡ heard_in s.life.heard ++ told_by_all made s.lower.datagrams
 
-  other_does : (m : Meaning t) (i : Input) (x : TraceStep) (choice : Choice) (s : View t) → ((made : List Step) → AreOfDeeds x.did made s.lower.datagrams → MakesPosts i x made s.lower.datagrams) → is_called i ≡ false →
-      IsAllowed m i choice (began s (time_of i)) → Does i x s (input_after m i choice (began s (time_of i)))
+  does_by : (i : Input) (x : TraceStep) (s : View t) (b : At t) (shrinks : Bool) → ((made : List Step) → (shrinks ≡ false → NoneShrunk made) → AreOfDeeds x.did made s.lower.datagrams → MakesPosts i x made s.lower.datagrams) →
+      Folds shrinks (began s (time_of i)) b → Does i x s b
   unfolding began state_move lower_move life_move frames_sealed ids_stepped
-  other_does m i x choice s makes uncalled may =
-      let a : At t = began s (time_of i) in
-      let h : Folds a (input_after m i choice a) = known_other m Folds folds_here folds_next (λ y c known plain may_be. move_folds m y c known plain may_be) packet_folds i choice a uncalled may in
-      record {
-        made = h.steps;
-        leads = h.leads;
-        makes = λ same. makes h.steps (subst (λ (ds : List Did). AreOfDeeds ds h.steps s.lower.datagrams) (sym (same ∙ h.appended)) h.are);
-        heard = h.heard;
-      }
+  does_by i x s b shrinks makes h = record {
+    made = h.steps;
+    leads = h.leads;
+    makes = λ same. makes h.steps h.none (subst (λ (ds : List Did). AreOfDeeds ds h.steps s.lower.datagrams) (sym (same ∙ h.appended)) h.are);
+    heard = h.heard;
+  }
+
+  -- a datagram comes, or timers do
+  other_folds : (m : Meaning t) (i : Input) (choice : Choice) (a : At t) → is_called i ≡ false → IsAllowed m i choice a → Folds true a (input_after m i choice a)
+  other_folds m i choice a uncalled may = known_other m (Folds true) (folds_here true) (folds_next true) (λ y c known plain may_be. move_folds true m y c known plain may_be (λ e. cc e)) (packet_folds true) i choice a uncalled may
+
+  -- a transmit, a close and a ping drop nothing
+  sent_folds : (m : Meaning t) (time max : ℕ) (choice : Choice) (a : At t) → IsAllowed m (input.Transmit time max) choice a → Folds false a (input_after m (input.Transmit time max) choice a)
+  unfolding IsAllowed input_after spent_after told_sent MayMove
+  sent_folds m time max choice a may =
+      transmit_told m (Folds false) (folds_here false) (folds_next false) (λ x r b may_be. move_folds false m x b (sending_known m x b.state r) (sending_uncalled x r) may_be (λ e. moved_none x b.state r))
+      (λ at_time size b. move_folds false m (Spend _) b (record { time = at_time; size = size; is = refl }) tt tt (λ e. refl))
+      (λ at_time batch b. move_folds false m (Finish batch.total _) b (record { time = at_time; bytes = batch.total; last = batch.last; is = refl }) tt tt (λ e. refl)) (packet_folds false) time max choice a may
+
+  closed_by : (m : Meaning t) (time : ℕ) (close : Close) (a : At t) (b : Bool) → is_open a.state.life.state ≡ b → Folds false a (if b then move_to (Shut time close) a else a)
+  unfolding MayMove
+  closed_by m time close a true h = move_folds false m (Shut time close) a tt tt (open_rank a.state.life.state h) (λ e. refl)
+  closed_by m time close a false h = folds_here false a
+
+  closed_folds : (m : Meaning t) (time code : ℕ) (reason : List ℕ) (choice : Choice) (a : At t) → Folds false a (input_after m (input.Close time code reason) choice a)
+  unfolding input_after close_after
+  closed_folds m time code reason choice a = closed_by m time _ a (is_open a.state.life.state) refl
+
+  asked_folds : (m : Meaning t) (time : ℕ) (choice : Choice) (a : At t) → Folds false a (input_after m (input.Ping time) choice a)
+  unfolding input_after MayMove
+  asked_folds m time choice a = move_folds false m (Ask a.state.keys.highest) a tt tt tt (λ e. refl)
 
   input_does : (m : Meaning t) (i : Input) (x : TraceStep) (choice : Choice) (s : View t) → IsAllowed m i choice (began s (time_of i)) → x.answer ≡ answer_of m i choice (began s (time_of i)) →
       Does i x s (input_after m i choice (began s (time_of i)))
   unfolding began move_to state_move lower_move life_move deeds_move datagrams_stepped input_after IsAllowed answer_of after told_by_all frames_sealed ids_stepped
-  input_does m (input.Datagram time remote ecn bytes) x choice s may answers = other_does m (input.Datagram time remote ecn bytes) x choice s (λ made h. h) refl may
-  input_does m (input.Timeout time) x choice s may answers = other_does m (input.Timeout time) x choice s (λ made h. h) refl may
-  input_does m (input.Transmit time max) x choice s may answers = other_does m (input.Transmit time max) x choice s (λ made h. h) refl may
-  input_does m (input.Close time code reason) x choice s may answers = other_does m (input.Close time code reason) x choice s (λ made h. h) refl may
-  input_does m (input.Ping time) x choice s may answers = other_does m (input.Ping time) x choice s (λ made h. h) refl may
+  input_does m (input.Datagram time remote ecn bytes) x choice s may answers =
+      does_by (input.Datagram time remote ecn bytes) x s _ true (λ made none h. h) (other_folds m (input.Datagram time remote ecn bytes) choice (began s time) refl may)
+  input_does m (input.Timeout time) x choice s may answers = does_by (input.Timeout time) x s _ true (λ made none h. h) (other_folds m (input.Timeout time) choice (began s time) refl may)
+  input_does m (input.Transmit time max) x choice s may answers = does_by (input.Transmit time max) x s _ false (λ made none h. (none refl, h)) (sent_folds m time max choice (began s time) may)
+  input_does m (input.Close time code reason) x choice s may answers = does_by (input.Close time code reason) x s _ false (λ made none h. (none refl, h)) (closed_folds m time code reason choice (began s time))
+  input_does m (input.Ping time) x choice s may answers = does_by (input.Ping time) x s _ false (λ made none h. (none refl, h)) (asked_folds m time choice (began s time))
   input_does m (input.SendDatagram time body) x choice s may answers = record {
     made = Sent (datagram_limit (began s time).state) true body ∷ [];
     leads = refl;
@@ -339,7 +476,7 @@ module _ {t : Types} where
   input_does m (input.Identifiers time given) x choice s may answers = record {
     made = [];
     leads = refl;
-    makes = λ same. subst (λ (ds : List Did). AreOfDeeds ds [] s.lower.datagrams) (sym same) refl;
+    makes = λ same. (refl, subst (λ (ds : List Did). AreOfDeeds ds [] s.lower.datagrams) (sym same) refl);
     heard = sym (append-nil (heard_in s.life.heard));
   }
   input_does m i x choice s may answers =
@@ -347,7 +484,7 @@ module _ {t : Types} where
       record {
         made = [];
         leads = h.datagrams;
-        makes = λ same. subst (λ (ds : List Did). AreOfDeeds ds [] s.lower.datagrams) (sym (same ∙ h.did)) refl;
+        makes = λ same. (refl, subst (λ (ds : List Did). AreOfDeeds ds [] s.lower.datagrams) (sym (same ∙ h.did)) refl);
         heard = ap heard_in h.heard ∙ sym (append-nil (heard_in s.life.heard));
       }
 

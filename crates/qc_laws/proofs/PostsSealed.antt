@@ -3,11 +3,11 @@ use Rattle.std.proofs.Common.{◌≡◌, ℕ, List, [], ◌∷◌, ◌++◌, ref
 use Rattle.qc_datagrams.specs.declared.datagrams.Datagrams.{Datagrams}
 use Rattle.qc_datagrams.specs.declared.datagrams.SendRefusal.{SendRefusal}
 use Rattle.qc_datagrams.specs.declared.datagrams.SendRefusal.TheVariants as send
-use Rattle.qc_datagrams.specs.Datagrams.{frame_taken, is_refused, new_datagrams, room_told, send_queued, send_refusal, send_refused}
-use Rattle.qc_datagrams.specs.Given.{AreInOrder, Queues, Takes, all_given, all_queued, given_by, queued_by}
+use Rattle.qc_datagrams.specs.Datagrams.{frame_taken, is_refused, longer_dropped, new_datagrams, room_told, send_queued, send_refusal, send_refused}
+use Rattle.qc_datagrams.specs.Given.{AreInOrder, Drops, Queues, Takes, all_given, all_queued, given_by, queued_by}
 use Rattle.qc_datagrams.specs.Given as queue
 use Rattle.qc_datagrams.specs.Queue.{first}
-use Rattle.qc_datagrams.specs.Steps.{Sealed, Step, after, after_step, sent_unless}
+use Rattle.qc_datagrams.specs.Steps.{Sealed, Shrunk, Step, after, after_step, sent_unless}
 use Rattle.qc_datagrams.proofs.GivenLaw.{gives_in_order}
 use Rattle.qc_frame.specs.Frame.{FrameValue}
 use Rattle.qc_frame.specs.declared.frames.FrameOf.TheVariants as frames
@@ -24,9 +24,9 @@ use Rattle.qc_state.specs.Run.{Run}
 use Rattle.qc_state.specs.Types.{Types, Meaning}
 use Rattle.qc_state.specs.View.{View}
 use Rattle.qc_state.proofs.DatagramSteps.{posts_append}
-use Rattle.qc_laws.specs.PostLaws.{AreOfDeeds, ArePosts, FoldsPosts, HasNewDatagrams, MakesPosts, SealsSent, datagrams_in, sealed_in, sent_by, sent_in}
+use Rattle.qc_laws.specs.PostLaws.{AreOfDeeds, ArePosts, AreShrunk, FoldsPosts, HasNewDatagrams, MakesPosts, SealsSent, datagrams_in, sealed_in, sent_by, sent_in}
 use Rattle.qc_laws.specs.StreamsLaws.{frames_sealed, with_steps}
-use Rattle.qc_laws.proofs.PostsFold.{run_posts}
+use Rattle.qc_laws.proofs.PostsFold.{run_posts, three_leave}
 use Rattle.qc_laws.proofs.PostsTaken.{front_in, given_append, left_append, queued_append}
 
 -- ---- the queue of those that are to be sent
@@ -79,24 +79,43 @@ unfolding after after_step
 frame_leaves (frames.Datagram body) d = came_leaves body d (is_refused body d)
 frame_leaves _ d = refl
 
-deeds_go : (ds : List Did) (made : List Step) (d : Datagrams) → AreOfDeeds ds made d → Goes [] (datagrams_in (frames_sealed ds)) d.outgoing (after made d).outgoing
+-- what no longer fits is dropped
+drop_goes : (most : ℕ) (d : Datagrams) → Goes [] [] d.outgoing (after_step (Shrunk most) d).outgoing
+unfolding all_given all_queued queue.after queue.after_step given_by queued_by after_step longer_dropped
+drop_goes most d = record { steps = Drops most ∷ []; gives = refl; leads = refl; queues = refl }
+
+shrunk_goes : (xs : List Step) (d : Datagrams) → AreShrunk xs → Goes [] [] d.outgoing (after xs d).outgoing
 unfolding after
-deeds_go [] made d h = goes_here d.outgoing (after made d).outgoing (ap (λ (xs : List Step). (after xs d).outgoing) h)
+shrunk_goes [] d h = goes_here d.outgoing d.outgoing refl
+shrunk_goes (Shrunk most ∷ xs) d h =
+    let next : Datagrams = after_step (Shrunk most) d in
+    goes_next [] [] [] [] d.outgoing next.outgoing (after xs next).outgoing (drop_goes most d) (shrunk_goes xs next h)
+shrunk_goes (_ ∷ xs) d h = cc
+
+deeds_go : (ds : List Did) (made : List Step) (d : Datagrams) → AreOfDeeds ds made d → Goes [] (datagrams_in (frames_sealed ds)) d.outgoing (after made d).outgoing
+deeds_go [] made d h = shrunk_goes made d h
 deeds_go (did.Gave layer.Streams body ∷ ds) made d h =
-    let front : List Step = datagram_steps h.0 in
-    let leads : (after made d).outgoing ≡ (after h.1 (after front d)).outgoing = ap (λ (xs : List Step). (after xs d).outgoing) h.3 ∙ ap (λ (x : Datagrams). x.outgoing) (posts_append front h.1 d) in
-    subst (λ (q : List (List ℕ)). Goes [] (datagrams_in (frames_sealed ds)) d.outgoing q) (sym leads)
-    (subst (λ (p : List (List ℕ)). Goes [] (datagrams_in (frames_sealed ds)) p (after h.1 (after front d)).outgoing) (frame_leaves h.0 d) (deeds_go ds h.1 (after front d) h.4))
+    let front : List Step = datagram_steps h.1 in
+    let mid : Datagrams = after h.0 d in
+    let leads : (after made d).outgoing ≡ (after h.2 (after front mid)).outgoing = ap (λ (x : Datagrams). x.outgoing) (three_leave made h.0 front h.2 d h.5) in
+    let more : List (List ℕ) = datagrams_in (frames_sealed ds) in
+    subst (λ (q : List (List ℕ)). Goes [] more d.outgoing q) (sym leads)
+    (goes_next [] [] [] more d.outgoing mid.outgoing (after h.2 (after front mid)).outgoing (shrunk_goes h.0 d h.3)
+    (subst (λ (p : List (List ℕ)). Goes [] more p (after h.2 (after front mid)).outgoing) (frame_leaves h.1 mid) (deeds_go ds h.2 (after front mid) h.6)))
 deeds_go (did.Gave layer.Session body ∷ ds) made d h = deeds_go ds made d h
 deeds_go (did.Gave layer.Recovery body ∷ ds) made d h = deeds_go ds made d h
 deeds_go (did.Gave layer.Life body ∷ ds) made d h = deeds_go ds made d h
 deeds_go (did.Gave layer.Ids body ∷ ds) made d h = deeds_go ds made d h
 deeds_go (did.Sealed space n epoch early fs ∷ ds) made d h =
     let front : List Step = sealed_datagrams fs in
-    let leads : (after made d).outgoing ≡ (after h.0 (after front d)).outgoing = ap (λ (xs : List Step). (after xs d).outgoing) h.1 ∙ ap (λ (x : Datagrams). x.outgoing) (posts_append front h.0 d) in
+    let mid : Datagrams = after h.0 d in
+    let behind : List (List ℕ) = (after h.1 (after front mid)).outgoing in
+    let leads : (after made d).outgoing ≡ behind = ap (λ (x : Datagrams). x.outgoing) (three_leave made h.0 front h.1 d h.3) in
+    let more : List (List ℕ) = datagrams_in (frames_sealed ds) in
     subst (λ (q : List (List ℕ)). Goes [] (datagrams_in (fs ++ frames_sealed ds)) d.outgoing q) (sym leads)
-    (subst (λ (l : List (List ℕ)). Goes [] l d.outgoing (after h.0 (after front d)).outgoing) (sym (datagrams_append fs (frames_sealed ds)))
-    (goes_next [] [] (datagrams_in fs) (datagrams_in (frames_sealed ds)) d.outgoing (after front d).outgoing (after h.0 (after front d)).outgoing (frames_go fs d h.2) (deeds_go ds h.0 (after front d) h.3)))
+    (subst (λ (l : List (List ℕ)). Goes [] l d.outgoing behind) (sym (datagrams_append fs (frames_sealed ds)))
+    (goes_next [] [] [] (datagrams_in fs ++ more) d.outgoing mid.outgoing behind (shrunk_goes h.0 d h.2)
+    (goes_next [] [] (datagrams_in fs) more mid.outgoing (after front mid).outgoing behind (frames_go fs mid h.4) (deeds_go ds h.1 (after front mid) h.5))))
 deeds_go (did.Piece space number v ∷ ds) made d h = deeds_go ds made d h
 deeds_go (did.Rose life ∷ ds) made d h = deeds_go ds made d h
 deeds_go (did.Lost why ∷ ds) made d h = deeds_go ds made d h
@@ -124,7 +143,9 @@ input_goes (input.SendDatagram time body) x made d h =
     (goes_next [] (sent_by (input.SendDatagram time body) (sent_answer o)) (datagrams_in (frames_sealed x.did)) [] d.outgoing d.outgoing (sent_unless o body d).outgoing (deeds_go x.did [] d h.3) (sent_goes o time body d))))
 input_goes (input.RecvDatagram time) x made d h =
     subst (λ (q : List (List ℕ)). Goes [] (datagrams_in (frames_sealed x.did)) d.outgoing q) (sym (ap (λ (xs : List Step). (after xs d).outgoing) h.0)) (deeds_go x.did [] d h.2)
-input_goes _ x made d h = deeds_go x.did made d h
+input_goes (input.Datagram time remote ecn bytes) x made d h = deeds_go x.did made d h
+input_goes (input.Timeout time) x made d h = deeds_go x.did made d h
+input_goes _ x made d h = deeds_go x.did made d h.1
 
 inputs_go : (waited : List Event) (calls : List (Input × TraceStep)) (xs : List Step) (d : Datagrams) → ArePosts waited calls xs d → Goes (sent_in calls) (sealed_in calls) d.outgoing (after xs d).outgoing
 unfolding after

@@ -4,11 +4,11 @@ use Rattle.std.specs.Option.{unwrap_or}
 use Rattle.qc_datagrams.specs.declared.datagrams.Datagrams.{Datagrams}
 use Rattle.qc_datagrams.specs.declared.datagrams.SendRefusal.{SendRefusal}
 use Rattle.qc_datagrams.specs.declared.datagrams.SendRefusal.TheVariants as send
-use Rattle.qc_datagrams.specs.Datagrams.{frame_taken, is_refused, new_datagrams, room_told, send_queued, send_refusal, send_refused}
+use Rattle.qc_datagrams.specs.Datagrams.{frame_taken, is_refused, longer_dropped, new_datagrams, room_told, send_queued, send_refusal, send_refused}
 use Rattle.qc_datagrams.specs.Given.{AreInOrder, Queues, Takes, all_given, all_queued, given_by, queued_by}
 use Rattle.qc_datagrams.specs.Given as queue
 use Rattle.qc_datagrams.specs.Queue.{first}
-use Rattle.qc_datagrams.specs.Steps.{Sealed, Step, after, after_step, sent_unless}
+use Rattle.qc_datagrams.specs.Steps.{Sealed, Shrunk, Step, after, after_step, sent_unless}
 use Rattle.qc_datagrams.proofs.GivenLaw.{gives_in_order}
 use Rattle.qc_frame.specs.Frame.{FrameValue}
 use Rattle.qc_frame.specs.FrameSpelling.{spelling}
@@ -25,10 +25,10 @@ use Rattle.qc_state.specs.Datagrams.{datagram_steps, sealed_datagrams, taken_ans
 use Rattle.qc_state.specs.Run.{Run}
 use Rattle.qc_state.specs.Types.{Types, Meaning}
 use Rattle.qc_state.specs.View.{View}
-use Rattle.qc_laws.specs.PostLaws.{AreDatagrams, AreOfDeeds, ArePosts, FoldsPosts, HasNewDatagrams, MakesPosts, TakesCame, TakesTrace, taken_by, taken_in}
+use Rattle.qc_laws.specs.PostLaws.{AreDatagrams, AreOfDeeds, ArePosts, AreShrunk, FoldsPosts, HasNewDatagrams, MakesPosts, TakesCame, TakesTrace, taken_by, taken_in}
 use Rattle.qc_laws.specs.ReadLaws.{given_in}
 use Rattle.qc_laws.specs.StreamsLaws.{given_to_streams, with_steps}
-use Rattle.qc_laws.proofs.PostsFold.{run_posts}
+use Rattle.qc_laws.proofs.PostsFold.{run_posts, three_leave}
 use Rattle.qc_state.proofs.DatagramSteps.{posts_append}
 
 -- ---- lists
@@ -109,23 +109,32 @@ sealed_leaves [] d = refl
 sealed_leaves (frames.Datagram body ∷ fs) d = sealed_leaves fs (after_step Sealed d)
 sealed_leaves (_ ∷ fs) d = sealed_leaves fs d
 
+-- so do those that drop what no longer fits
+shrunk_leaves : (xs : List Step) (d : Datagrams) → AreShrunk xs → (after xs d).incoming ≡ d.incoming
+unfolding after after_step longer_dropped
+shrunk_leaves [] d h = refl
+shrunk_leaves (Shrunk most ∷ xs) d h = shrunk_leaves xs (after_step (Shrunk most) d) h
+shrunk_leaves (_ ∷ xs) d h = cc
+
 deeds_go : (ds : List Did) (made : List Step) (d : Datagrams) → AreOfDeeds ds made d → Goes (given_to_streams ds) [] d.incoming (after made d).incoming
-unfolding after
-deeds_go [] made d h = subst (λ (xs : List Step). Goes [] [] d.incoming (after xs d).incoming) (sym h) (goes_here [] d.incoming d.incoming refl)
+deeds_go [] made d h = goes_here [] d.incoming (after made d).incoming (shrunk_leaves made d h)
 deeds_go (did.Gave layer.Streams body ∷ ds) made d h =
-    let front : List Step = datagram_steps h.0 in
-    let leads : (after made d).incoming ≡ (after h.1 (after front d)).incoming = ap (λ (xs : List Step). (after xs d).incoming) h.3 ∙ ap (λ (x : Datagrams). x.incoming) (posts_append front h.1 d) in
+    let front : List Step = datagram_steps h.1 in
+    let mid : Datagrams = after h.0 d in
+    let leads : (after made d).incoming ≡ (after h.2 (after front mid)).incoming = ap (λ (x : Datagrams). x.incoming) (three_leave made h.0 front h.2 d h.5) in
+    let came : Goes (body ∷ []) [] d.incoming (after front mid).incoming = subst (λ (p : List (List ℕ)). Goes (body ∷ []) [] p (after front mid).incoming) (shrunk_leaves h.0 d h.3) (frame_goes body h.1 mid h.4) in
     subst (λ (q : List (List ℕ)). Goes (body ∷ given_to_streams ds) [] d.incoming q) (sym leads)
-    (goes_next (body ∷ []) (given_to_streams ds) [] [] d.incoming (after front d).incoming (after h.1 (after front d)).incoming (frame_goes body h.0 d h.2) (deeds_go ds h.1 (after front d) h.4))
+    (goes_next (body ∷ []) (given_to_streams ds) [] [] d.incoming (after front mid).incoming (after h.2 (after front mid)).incoming came (deeds_go ds h.2 (after front mid) h.6))
 deeds_go (did.Gave layer.Session body ∷ ds) made d h = deeds_go ds made d h
 deeds_go (did.Gave layer.Recovery body ∷ ds) made d h = deeds_go ds made d h
 deeds_go (did.Gave layer.Life body ∷ ds) made d h = deeds_go ds made d h
 deeds_go (did.Gave layer.Ids body ∷ ds) made d h = deeds_go ds made d h
 deeds_go (did.Sealed space n epoch early fs ∷ ds) made d h =
     let front : List Step = sealed_datagrams fs in
-    let leads : (after made d).incoming ≡ (after h.0 (after front d)).incoming = ap (λ (xs : List Step). (after xs d).incoming) h.1 ∙ ap (λ (x : Datagrams). x.incoming) (posts_append front h.0 d) in
+    let mid : Datagrams = after h.0 d in
+    let leads : (after made d).incoming ≡ (after h.1 (after front mid)).incoming = ap (λ (x : Datagrams). x.incoming) (three_leave made h.0 front h.1 d h.3) in
     subst (λ (q : List (List ℕ)). Goes (given_to_streams ds) [] d.incoming q) (sym leads)
-    (subst (λ (p : List (List ℕ)). Goes (given_to_streams ds) [] p (after h.0 (after front d)).incoming) (sealed_leaves fs d) (deeds_go ds h.0 (after front d) h.3))
+    (subst (λ (p : List (List ℕ)). Goes (given_to_streams ds) [] p (after h.1 (after front mid)).incoming) (sealed_leaves fs mid ∙ shrunk_leaves h.0 d h.2) (deeds_go ds h.1 (after front mid) h.5))
 deeds_go (did.Piece space number v ∷ ds) made d h = deeds_go ds made d h
 deeds_go (did.Rose life ∷ ds) made d h = deeds_go ds made d h
 deeds_go (did.Lost why ∷ ds) made d h = deeds_go ds made d h
@@ -153,7 +162,9 @@ input_goes (input.SendDatagram time body) x made d h =
 input_goes (input.RecvDatagram time) x made d h =
     let took : first d.incoming ++ [] ≡ taken_by (input.RecvDatagram time) x.answer = append-nil (first d.incoming) ∙ sym (taken_first d.incoming time) ∙ ap (λ (a : Answer). taken_by (input.RecvDatagram time) a) (sym h.1) in
     record { steps = Takes ∷ []; gives = took; leads = ap (λ (xs : List Step). (after xs d).incoming) h.0; among = none_among (given_to_streams x.did) }
-input_goes _ x made d h = deeds_go x.did made d h
+input_goes (input.Datagram time remote ecn bytes) x made d h = deeds_go x.did made d h
+input_goes (input.Timeout time) x made d h = deeds_go x.did made d h
+input_goes _ x made d h = deeds_go x.did made d h.1
 
 inputs_go : (waited : List Event) (calls : List (Input × TraceStep)) (xs : List Step) (d : Datagrams) → ArePosts waited calls xs d → Goes (given_in calls) (taken_in calls) d.incoming (after xs d).incoming
 unfolding after

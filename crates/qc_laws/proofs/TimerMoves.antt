@@ -360,11 +360,11 @@ module _ {t : Types} where
   }
 
   settled_less : (m : Meaning t) (space id : SpaceId) (n : ℕ) (after : After t.C) (s : View t) → IsSettledBy m space after s → Less (recovery.space_of id s.lower.recovery) (recovery.space_of id (state_move (Ack space n after) s).lower.recovery)
-  unfolding state_move lower_move streams_stepped packets_settled settled_by frames_sealed ids_stepped
+  unfolding state_move lower_move datagrams_stepped streams_stepped packets_settled settled_by frames_sealed ids_stepped
   settled_less m space id n after s k = subst (λ (a : After t.C). Less (recovery.space_of id s.lower.recovery) (recovery.space_of id a.recovery)) (sym k.is) (ack_less m.control _ id space _ _ _ _ _ s.lower.recovery s.paths.current.kept)
 
   fired_less : (m : Meaning t) (id : SpaceId) (after : FiredAfter t.C) (s : View t) → IsFiredBy m after s → Less (recovery.space_of id s.lower.recovery) (recovery.space_of id (state_move (Fire after) s).lower.recovery)
-  unfolding state_move lower_move streams_stepped timer_fired fired_by frames_sealed ids_stepped
+  unfolding state_move lower_move datagrams_stepped streams_stepped timer_fired fired_by frames_sealed ids_stepped
   fired_less m id after s k = subst (λ (a : FiredAfter t.C). Less (recovery.space_of id s.lower.recovery) (recovery.space_of id a.recovery)) (sym k.is) (fire_less m.control _ id _ s.lower.recovery s.paths.current.kept)
 
   forget_space : (space : SpaceId) (s : View t) → Spaces s → (id : SpaceId) → SpaceHolds (state_move (Forget space) s) id

@@ -1,8 +1,9 @@
 -- Laws over whole runs, said of the datagrams of the application (RFC 9221, sections 3 and 5), in words of the trace.
-use Rattle.std.specs.Prelude.{◌≡◌, ◌⊎◌, ℕ, true, List, [], ◌∷◌, ◌++◌, Option}
+use Rattle.std.specs.Prelude.{◌≡◌, ◌⊎◌, ℕ, Bool, true, false, List, [], ◌∷◌, ◌++◌, Option}
+use Rattle.std.specs.List.{list_all, list_any}
 use Rattle.qc_datagrams.specs.Datagrams.{new_datagrams, send_refusal}
 use Rattle.qc_datagrams.specs.Given.{AreInOrder}
-use Rattle.qc_datagrams.specs.Steps.{Step, Sent, Taken, after}
+use Rattle.qc_datagrams.specs.Steps.{Step, Sent, Shrunk, Taken, after}
 use Rattle.qc_datagrams.specs.declared.datagrams.Datagrams.{Datagrams}
 use Rattle.qc_frame.specs.Frame.{FrameValue}
 use Rattle.qc_frame.specs.FrameSpelling.{spelling}
@@ -32,23 +33,39 @@ heard_in (DatagramReceived ∷ es) = DatagramReceived ∷ heard_in es
 heard_in (DatagramsUnblocked ∷ es) = DatagramsUnblocked ∷ heard_in es
 heard_in (_ ∷ es) = heard_in es
 
+-- whether a step is that those are dropped which are to be sent and no longer fit
+abbrev pub is_shrunk : Step → Bool
+is_shrunk (Shrunk most) = true
+is_shrunk _ = false
+
+-- all of these steps are, and none is
+abbrev pub AreShrunk : List Step → Type 0
+AreShrunk xs = list_all is_shrunk xs ≡ true
+
+abbrev pub NoneShrunk : List Step → Type 0
+NoneShrunk xs = list_any is_shrunk xs ≡ false
+
 -- Deeds make these steps of them, one after the other, each as its turn comes. What is given to streams and datagrams is a frame as it is
 -- spelled: a DATAGRAM frame makes that it comes, which they may refuse, and any other none. A packet that is sealed makes one step for each
 -- of its DATAGRAM frames, none left out and none made up, and each of these holds the oldest datagram that is to be sent then. Any other deed
--- makes none.
+-- makes none. That those are dropped which no longer fit is told by no deed: before a deed, and behind all, there may be such steps.
 abbrev pub AreOfDeeds : List Did → List Step → Datagrams → Type 0
-AreOfDeeds [] made d = made ≡ []
+AreOfDeeds [] made d = AreShrunk made
 AreOfDeeds (did.Gave layer.Streams body ∷ ds) made d =
-    (frame : FrameValue) × (rest : List Step) × (body ≡ spelling frame) × (made ≡ datagram_steps frame ++ rest) × AreOfDeeds ds rest (after (datagram_steps frame) d)
-AreOfDeeds (did.Sealed space number epoch early fs ∷ ds) made d = (rest : List Step) × (made ≡ sealed_datagrams fs ++ rest) × AllOldest fs d × AreOfDeeds ds rest (after (sealed_datagrams fs) d)
+    (shrunk : List Step) × (frame : FrameValue) × (rest : List Step) × AreShrunk shrunk × (body ≡ spelling frame) × (made ≡ shrunk ++ (datagram_steps frame ++ rest)) × AreOfDeeds ds rest (after (datagram_steps frame) (after shrunk d))
+AreOfDeeds (did.Sealed space number epoch early fs ∷ ds) made d =
+    (shrunk : List Step) × (rest : List Step) × AreShrunk shrunk × (made ≡ shrunk ++ (sealed_datagrams fs ++ rest)) × AllOldest fs (after shrunk d) × AreOfDeeds ds rest (after (sealed_datagrams fs) (after shrunk d))
 AreOfDeeds (_ ∷ ds) made d = AreOfDeeds ds made d
 
 -- An input makes these steps of them: one that sends a datagram, or takes one, is that, and answers as they are then, and its deeds make
--- none; `most` is how long one may be, where the peer takes any. Any other makes those of its deeds.
+-- none; `most` is how long one may be, where the peer takes any. Any other makes those of its deeds. Only where a datagram comes, or timers do,
+-- may some be dropped which no longer fit.
 abbrev pub MakesPosts : Input → TraceStep → List Step → Datagrams → Type 0
 MakesPosts (input.SendDatagram time body) x made d = (most : Option ℕ) × (made ≡ Sent most true body ∷ []) × (x.answer ≡ sent_answer (send_refusal most true body d)) × AreOfDeeds x.did [] d
 MakesPosts (input.RecvDatagram time) x made d = (made ≡ Taken ∷ []) × (x.answer ≡ taken_answer d.incoming) × AreOfDeeds x.did [] d
-MakesPosts _ x made d = AreOfDeeds x.did made d
+MakesPosts (input.Datagram time remote ecn bytes) x made d = AreOfDeeds x.did made d
+MakesPosts (input.Timeout time) x made d = AreOfDeeds x.did made d
+MakesPosts _ x made d = NoneShrunk made × AreOfDeeds x.did made d
 
 -- Steps are those of the inputs, one after the other, each as its turn comes. What the events of an input tell of datagrams is what waited
 -- before, and then what its steps tell: that one came where none was queued, and that there is room again where one is sealed and another had
@@ -61,7 +78,8 @@ ArePosts waited (call ∷ calls) xs d =
 module _ {t : Types} where
   -- From one view to another, over inputs whose trace is this, the datagrams made these steps, and are what they leave: those of the frames
   -- that the deeds gave and of the DATAGRAM frames that they sealed, and of the inputs that send or take one, which answer so; none is left
-  -- out, none made up, and each in its turn. So whatever holds over any steps of the datagrams holds over these.
+  -- out, none made up, and each in its turn. Beside them there is only that, where a datagram or a timer comes, those are dropped which are to
+  -- be sent and no longer fit. So whatever holds over any steps of the datagrams holds over these.
   pub record FoldsPosts (is : List Input) (xs : List TraceStep) (s s' : View t) : Type 0 where
     pub steps : List Step
     pub leads : s'.lower.datagrams ≡ after steps s.lower.datagrams

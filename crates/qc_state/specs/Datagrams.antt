@@ -1,18 +1,21 @@
 -- The datagrams of the application as a layer with steps of its own (RFC 9221): which frames it is handed, why it refuses one, which of its
 -- own frames are sealed, and what the application's calls are answered. What a step makes of them stands with the datagrams, and is opened
 -- nowhere here.
-use Rattle.std.specs.Prelude.{◌≡◌, ℕ, nat_le, Bool, false, ◌&&◌, not, ◌==◌, if◌then◌else◌, List, [], ◌∷◌, ◌++◌, length, Option, None, Some}
+use Rattle.std.specs.Prelude.{◌≡◌, ℕ, nat_le, nat_lt, Bool, false, ◌&&◌, not, ◌==◌, if◌then◌else◌, List, [], ◌∷◌, ◌++◌, length, Option, None, Some}
 use Rattle.qc_base.specs.declared.transport_error.TransportError.{TransportError}
 use Rattle.qc_datagrams.specs.declared.datagrams.Datagrams.{Datagrams}
 use Rattle.qc_datagrams.specs.declared.datagrams.SendRefusal.{SendRefusal}
 use Rattle.qc_datagrams.specs.declared.datagrams.SendRefusal.TheVariants as send
 use Rattle.qc_datagrams.specs.Datagrams.{is_refused}
 use Rattle.qc_datagrams.specs.Queue.{first}
-use Rattle.qc_datagrams.specs.Steps.{Step, Came, Sealed, after, after_step}
+use Rattle.qc_datagrams.specs.Size.{max_size}
+use Rattle.qc_datagrams.specs.Steps.{Step, Came, Sealed, Shrunk, after, after_step}
 use Rattle.qc_frame.specs.Frame.{FrameValue}
 use Rattle.qc_frame.specs.FrameSpelling.{spelling}
 use Rattle.qc_frame.specs.declared.frames.FrameOf.TheVariants as frames
 use Rattle.qc_params.specs.declared.params.TransportParameters.{TransportParameters}
+use Rattle.qc_state.specs.Paths.{most_on}
+use Rattle.qc_state.specs.declared.paths.Path.{Path}
 use Rattle.qc_state.specs.declared.events.Event.{Event}
 use Rattle.qc_state.specs.declared.events.Event.TheVariants.{DatagramReceived, DatagramsUnblocked}
 use Rattle.qc_state.specs.declared.trace.Answer.{Answer}
@@ -75,6 +78,21 @@ first_fits room (d ∷ ds) = nat_le (length (spelling (frames.Datagram d))) room
 abbrev pub frame_size_of : Option TransportParameters → Option ℕ
 frame_size_of None = None
 frame_size_of (Some p) = p.max_datagram_frame_size
+
+-- A datagram has the size that the peer takes, and a packet, at most (RFC 9221, section 3). How long one may be on a path, where the peer takes
+-- any: it goes in a 1-RTT packet alone, in a datagram of that path
+abbrev pub limit_on : {C : Type 0} → Path C → Option TransportParameters → Option ℕ
+limit_on path peer = max_size (most_on path) (length path.remote_cid) (frame_size_of peer)
+
+-- those that are too long for this limit are dropped
+abbrev pub drops_to : Option ℕ → List Step
+drops_to None = []
+drops_to (Some most) = Shrunk most ∷ []
+
+-- Where a path takes smaller datagrams than before, as behind a black hole, those of the application that are to be sent and no longer fit are
+-- dropped, since a DATAGRAM isn't cut (RFC 9221, section 5; RFC 8899, section 4.3). `before` is the size that its search had found before
+unfoldable pub shrunk_by : {C : Type 0} → (before : ℕ) → Path C → Option TransportParameters → List Step
+shrunk_by before path peer = if nat_lt path.kept.mtud.current before then drops_to (limit_on path peer) else []
 
 -- what is answered where one is to be sent
 abbrev pub sent_answer : Option SendRefusal → Answer

@@ -43,6 +43,7 @@ use Rattle.qc_state.specs.declared.deeds.Quiet.{Quiet}
 use Rattle.qc_state.specs.declared.deeds.Verdict.{Verdict}
 use Rattle.qc_state.specs.declared.deeds.Verdict.TheVariants as verdict
 use Rattle.qc_recovery.specs.Steps.{After, FiredAfter, path_dropped}
+use Rattle.qc_recovery.specs.declared.path.PathData.{PathData}
 use Rattle.qc_state.specs.Acks.{is_ack}
 use Rattle.qc_state.specs.Draws.{word}
 use Rattle.qc_state.specs.Life.{rank_of, is_open, is_closed, is_drained, reason_given, life_raised, life_closed, life_drained, life_established, data_ready, token_learned, identifiers_wanted, retirement_told, token_told, ready_reported, connected_reported, datagram_heard, more_heard, heard_reported, all_heard_reported, lost_reported, notice_reported, notices_reported, drained_reported}
@@ -62,7 +63,7 @@ use Rattle.qc_state.specs.StreamFrames.{acked_steps, fired_steps, lost_steps, se
 use Rattle.qc_streams.specs.Steps.{AllMay, MayStep}
 use Rattle.qc_streams.specs.Waits as streams
 use Rattle.qc_datagrams.specs.Steps as datagrams
-use Rattle.qc_state.specs.Datagrams.{sealed_datagrams, tells_datagram, told_by_all}
+use Rattle.qc_state.specs.Datagrams.{sealed_datagrams, shrunk_by, tells_datagram, told_by_all}
 use Rattle.qc_state.specs.Timers.{timers_sealed, timers_acking, timers_stopped, timers_closing, timers_accepted, timers_holding, timers_paced, timers_held, timers_released, timers_issued, timers_outlived, timers_armed, clock_set}
 use Rattle.qc_state.specs.Types.{Types}
 use Rattle.qc_state.specs.View.{View, At, at}
@@ -138,6 +139,7 @@ is_post (datagrams.Came d) = false
 is_post datagrams.Taken = true
 is_post (datagrams.Sent most drops d) = true
 is_post datagrams.Sealed = false
+is_post (datagrams.Shrunk most) = false
 
 -- the deeds, told one after another
 abbrev pub told : List Did → List Did → List Did
@@ -311,13 +313,17 @@ module _ {t : Types} where
   setup_move (Seal time form n size fs) s = packet_drawn s.setup form
   setup_move _ s = s.setup
 
+  -- the steps of the datagrams where loss recovery keeps this of the path in use from then on
+  abbrev pub shrunk_steps : PathData t.C → View t → List datagrams.Step
+  shrunk_steps kept s = shrunk_by s.paths.current.kept.mtud.current (record s.paths.current { kept = kept }) s.setup.peer
+
   unfoldable pub lower_move : Move t → View t → Lower t.S
   lower_move (Seal time form n size fs) s = if s.waiting.close_owed then s.lower else packet_flown s.lower (number_space form) n (flown_packet time size fs)
   lower_move (Take id fs) s = frames_sealed fs s.lower
   lower_move (Begin id opens) s = (packet_begun id opens s).lower
   lower_move (Forget id) s = flight_dropped s.lower id
-  lower_move (Ack id n r) s = ids_stepped (lost_ids r.lost) (streams_stepped (acked_steps r.acked ++ lost_steps r.lost) (packets_settled s.lower r))
-  lower_move (Fire r) s = ids_stepped (fired_ids r.fired) (streams_stepped (fired_steps r.fired) (timer_fired s.lower r))
+  lower_move (Ack id n r) s = datagrams_stepped (shrunk_steps r.path s) (ids_stepped (lost_ids r.lost) (streams_stepped (acked_steps r.acked ++ lost_steps r.lost) (packets_settled s.lower r)))
+  lower_move (Fire r) s = datagrams_stepped (shrunk_steps r.path s) (ids_stepped (fired_ids r.fired) (streams_stepped (fired_steps r.fired) (timer_fired s.lower r)))
   lower_move (Fix cid) s = ids_stepped (ids.Renamed cid ∷ []) s.lower
   lower_move (Want time count) s = ids_stepped (ids.Asked count ∷ []) s.lower
   lower_move (Insert new) s = ids_stepped (ids.NewCame new ∷ []) s.lower

@@ -13,13 +13,11 @@ use Rattle.qc_state.specs.Life.{is_open}
 use Rattle.qc_state.specs.Moves.{Clock, Ask, Call, Issue, Post, Shut, ReportReady, ReportConnected, ReportAllHeard, ReportStreams, ReportLost, ReportNotices, ReportDrained, move_to, state_move}
 use Rattle.qc_state.specs.Polls.{waiting_events, endpoint_events}
 use Rattle.qc_state.specs.Receiving.{is_taken, datagram_after}
-use Rattle.qc_state.specs.Offers.{path_size}
 use Rattle.qc_state.specs.Sending.{Choice, MayTransmit, transmit_after, transmit_bytes, transmit_of}
 use Rattle.qc_cids.specs.Cids.{give_refusal}
 use Rattle.qc_datagrams.specs.Datagrams.{send_refusal}
-use Rattle.qc_datagrams.specs.Size.{max_size}
 use Rattle.qc_datagrams.specs.Steps as datagrams
-use Rattle.qc_state.specs.Datagrams.{frame_size_of, sent_answer, taken_answer}
+use Rattle.qc_state.specs.Datagrams.{limit_on, sent_answer, taken_answer}
 use Rattle.qc_state.specs.Streams.{MayRead, call_answer, calls_of}
 use Rattle.qc_state.specs.Timeouts.{timeout_after}
 use Rattle.qc_state.specs.Timers.{next_timeout}
@@ -75,10 +73,9 @@ out_of None bytes = Nothing
 out_of (Some sent) bytes = Out sent.destination sent.segment_size sent.ecn bytes
 
 module _ {t : Types} where
-  -- A datagram has the size that the peer takes, and a packet, at most (RFC 9221, section 3). How long a datagram of the application may be, where
-  -- the peer takes any: it goes in a 1-RTT packet alone, in a datagram of the path
+  -- how long a datagram of the application may be on the path in use, where the peer takes any
   unfoldable pub datagram_limit : View t → Option ℕ
-  datagram_limit s = max_size (path_size s) (length s.paths.current.remote_cid) (frame_size_of s.setup.peer)
+  datagram_limit s = limit_on s.paths.current s.setup.peer
 
   -- the call begins: the connection is told the time
   unfoldable pub began : View t → ℕ → At t
