@@ -318,9 +318,10 @@ pub fn drive<U: Suite, G: TokenStore>(
     ensures once_part { OnlyDoneWaits connection.old.core.life → IfErr result (λ e. TellsOnce connection.old.core.life e.done) }
     ensures told_end { OnlyDoneWaits connection.old.core.life → OnOk result (OnlyDoneWaits connection.new.core.life) }
 
-    // What loss recovery keeps is what its own steps leave, and each packet that is sealed, but for closes, is acknowledged, lost, dropped
-    // with its space or in flight, and that once; so each byte that the session wrote waits, is in flight or was acknowledged. And the loss
-    // timer stands where an acknowledgement is waited for, or a client has to probe.
+    // What loss recovery keeps is what its own steps leave, by the ACKs that admitted packets gave it, in order; and each packet that is
+    // sealed, but for closes, is acknowledged, lost, dropped with its space or in flight, and that once; so each byte that the session
+    // wrote waits, is in flight or was acknowledged. And the loss timer stands where an acknowledgement is waited for, or a client has to
+    // probe.
     ensures recovers { Ends (ideal U.Random.stream connection.old.core) → IfOk result (λ trace. Recovers ⟦<U as Means>⟧.meaning (deeds_of trace) (ideal U.Random.stream connection.old.core) (ideal U.Random.stream connection.new.core)) }
     ensures crypto { Ends (ideal U.Random.stream connection.old.core) → IfOk result (λ trace. KeepsBytes ⟦<U as Means>⟧.meaning (deeds_of trace) (ideal U.Random.stream connection.old.core) (ideal U.Random.stream connection.new.core)) }
     ensures timer { Ends (ideal U.Random.stream connection.old.core) → IfOk result (λ trace. KeepsTimer (deeds_of trace) (ideal U.Random.stream connection.old.core) (ideal U.Random.stream connection.new.core)) }
@@ -333,8 +334,8 @@ pub fn drive<U: Suite, G: TokenStore>(
     // frames that were given to them and of those that were sealed, and those of calls the ones of the inputs, which answer so.
     ensures folded { IfOk result (λ trace. FoldsStreams inputs.now trace (ideal U.Random.stream connection.old.core) (ideal U.Random.stream connection.new.core)) }
 
-    // Frames of theirs are acknowledged that stood in packets which loss recovery acknowledged, in order, and no others: an ACK acknowledges
-    // the number of such a packet, and it was sealed with these frames, where it wasn't in flight before.
+    // Frames of theirs are acknowledged that stood in packets which loss recovery acknowledged, in order, and no others: an ACK in an admitted
+    // packet acknowledges the number of such a packet, and it was sealed with these frames, where it wasn't in flight before.
     ensures frames { Ends (ideal U.Random.stream connection.old.core) → IfOk result (λ trace. AcksFrames ⟦<U as Means>⟧.meaning inputs.now trace (ideal U.Random.stream connection.old.core) (ideal U.Random.stream connection.new.core)) }
 
     // Where they were new, what was read of each are the first bytes that came on it, each once; what sealed STREAM frames hold was written

@@ -6,7 +6,9 @@ use Rattle.qc_base.specs.declared.side.SpaceId.{SpaceId}
 use Rattle.qc_base.specs.declared.side.SpaceId.TheVariants.{«Data»}
 use Rattle.qc_flight.specs.Packets.{Entry}
 use Rattle.qc_flight.specs.declared.sent.SentPacket.{SentPacket}
-use Rattle.qc_frame.specs.Frame.{FrameValue}
+use Rattle.qc_frame.specs.Frame.{AckValue, FrameValue}
+use Rattle.qc_frame.specs.FrameSpelling.{spelling}
+use Rattle.qc_frame.specs.declared.frames.FrameOf.TheVariants as frames
 use Rattle.qc_recovery.specs.Calls.{dropped_after}
 use Rattle.qc_recovery.specs.Runs.{in_space}
 use Rattle.qc_recovery.specs.Steps.{After, FiredAfter, space_dropped}
@@ -26,6 +28,7 @@ use Rattle.qc_state.specs.Waiting.{ack_released, acked_in, bundle_next, came_in,
 use Rattle.qc_path.specs.Arrived.{arrived}
 use Rattle.qc_state.specs.declared.deeds.Did.{Did}
 use Rattle.qc_state.specs.declared.deeds.Did.TheVariants as did
+use Rattle.qc_state.specs.declared.deeds.Layer.TheVariants as layer
 use Rattle.qc_state.specs.declared.input.Input.{Input}
 use Rattle.qc_state.specs.declared.keys.KeyGroup.{KeyGroup}
 use Rattle.qc_state.specs.declared.life.Life.{Life}
@@ -37,7 +40,7 @@ use Rattle.qc_state.specs.Headline.{deeds_of}
 use Rattle.qc_state.specs.Keys.{NewKeys, failure_counted, has_keys, keys_given, epoch_in}
 use Rattle.qc_state.specs.Life.{connected_reported, data_ready, drained_reported, identifiers_wanted, is_open, life_closed, life_drained, life_established, life_raised, lost_reported, ready_reported, reason_given, token_learned, notice_reported, notices_reported, all_heard_reported, heard_reported}
 use Rattle.qc_state.specs.Lower.{bytes_came, flight_dropped, packet_flown, packets_settled, session_read, session_wrote, timer_fired, limits_learned, frame_handed, streams_closed, streams_stepped, event_told, events_told, datagrams_stepped, frames_sealed, ids_stepped}
-use Rattle.qc_state.specs.Moves.{Accept, Ack, AreNext, Ask, Begin, Clock, Confirm, PeerClosesToo, Establish, Fail, Fire, Forget, Give, PeerCloses, MayMove, Move, Owe, Raise, Release, ReportConnected, ReportDrained, ReportLost, ReportReady, ReportNotice, ReportNotices, Seal, Shut, Take, Write, arrival_of, deeds_move, keys_move, life_move, lower_move, move_to, paths_move, state_move, waiting_move, ReportStream, ReportStreams, ReportHeard, ReportAllHeard, Hand, Insert, Switch, Retire}
+use Rattle.qc_state.specs.Moves.{Accept, Ack, AreNext, Ask, Begin, Clock, Confirm, PeerClosesToo, Establish, Fail, Fire, Forget, Give, PeerCloses, MayMove, Move, Owe, Raise, Release, ReportConnected, ReportDrained, ReportLost, ReportReady, ReportNotice, ReportNotices, Seal, Shut, Take, Write, arrival_of, keys_move, life_move, lower_move, paths_move, state_move, waiting_move, ReportStream, ReportStreams, ReportHeard, ReportAllHeard, Hand, Insert, Switch, Retire}
 use Rattle.qc_state.specs.Numbers.{next_number}
 use Rattle.qc_state.specs.Numbers as numbers
 use Rattle.qc_state.specs.Offers.{packet_begun}
@@ -50,11 +53,11 @@ use Rattle.qc_state.specs.Run as run
 use Rattle.qc_state.specs.Sending.{packet_size}
 use Rattle.qc_state.specs.Types.{Types, Meaning}
 use Rattle.qc_state.specs.View.{View, At}
-use Rattle.qc_laws.proofs.EndsHold.{began_ends, ends_seal, known_keeps, low_open, step_ends}
-use Rattle.qc_laws.proofs.KnownMoves.{IsFiredBy, IsKnownMove, IsSettledBy, known_input}
+use Rattle.qc_laws.proofs.EndsHold.{began_ends, low_open, step_ends}
+use Rattle.qc_laws.proofs.KnownMoves.{IsFiredBy, IsKnownMove, IsSettledBy}
 use Rattle.qc_state.proofs.Probed.{begun_holds, begun_streams}
-use Rattle.qc_laws.proofs.Recovers.{kept_same, move_parts, recovers_next, seal_folds, shut_rank}
-use Rattle.qc_state.proofs.Telling.{told_appends}
+use Rattle.qc_state.proofs.OpenPackets.{IsUnacked}
+use Rattle.qc_laws.proofs.RecoveryFold.{Covers, covers_next, covers_same, fold_from, input_part, kept_same, recovers_by}
 use Rattle.qc_state.proofs.Transmitted.{IsSealable}
 use Rattle.qc_laws.proofs.CryptoBuffers.{More, crypto_more_holds, crypto_more_sent, lost_in_more, more_here, more_next, more_same}
 use Rattle.qc_laws.proofs.CryptoPlaces.{FiresIn, ack_flight, ack_other, acked_crypto, apart_lower, apart_values, bundled_spaces, came_crypto, dropped_highest, dropped_keys, failed_keys, fire_kept, fired_flight, flown_lower, given_above, given_keys, given_open, here_values, in_other, in_same, left_counts, more_bytes, narrow, none_written, not_above, put_again, put_crypto, put_other, rank_other, same_or, sealed_apart, sealed_stream, settled_bytes, settled_other, settled_stream, used_highest, used_keys, written_same}
@@ -289,27 +292,27 @@ module _ {t : Types} where
   nil_kept : (id : SpaceId) (before : List Entry) (s : View t) → CryptoKept id before s → CryptoKept id (before ++ []) s
   nil_kept id before s h = subst (λ (es : List Entry). CryptoKept id es s) (sym (append-nil before)) h
 
-  move_bytes : (m : Meaning t) (x : Move t) (s : View t) → IsKnownMove m x s → MayMove x s → (id : SpaceId) (before : List Entry) → CryptoKept id before s → CryptoKept id (before ++ laws.acked_in id (steps_of x s)) (state_move x s)
+  move_bytes : (m : Meaning t) (x : Move t) (s : View t) → IsKnownMove m x s → IsUnacked x → MayMove x s → (id : SpaceId) (before : List Entry) → CryptoKept id before s → CryptoKept id (before ++ laws.acked_in id (steps_of x s)) (state_move x s)
   unfolding steps_of MayMove
-  move_bytes m (Clock time) s k may id before h = absurd k
-  move_bytes m (Take space fs) s k may id before h = absurd k
-  move_bytes m (Seal time form n size fs) s k may id before h = absurd k
-  move_bytes m (Forget space) s k may id before h = forget_holds space s id before h
-  move_bytes m (Ack space n after) s k may id before h = ack_by m space n after s id before (same_or id space) k h
-  move_bytes m (Fire after) s k may id before h = fire_holds m after s id before k h
-  move_bytes m (Begin space opens) s k may id before h = same_holds id before s _ (begin_same space opens s id) h
-  move_bytes m (Write bytes keys session) s k may id before h = nil_kept id before (state_move (Write bytes keys session) s) (write_by bytes keys session s id before may (same_or id s.keys.highest) h)
-  move_bytes m ReportReady s k may id before h = absurd k
-  move_bytes m ReportConnected s k may id before h = absurd k
-  move_bytes m ReportHeard s k may id before h = absurd k
-  move_bytes m ReportAllHeard s k may id before h = absurd k
-  move_bytes m ReportStream s k may id before h = absurd k
-  move_bytes m ReportStreams s k may id before h = absurd k
-  move_bytes m ReportLost s k may id before h = absurd k
-  move_bytes m ReportNotice s k may id before h = absurd k
-  move_bytes m ReportNotices s k may id before h = absurd k
-  move_bytes m ReportDrained s k may id before h = absurd k
-  move_bytes m x s k may id before h = same_holds id before s _ (still_same m x s id tt k may) h
+  move_bytes m (Clock time) s k u may id before h = absurd k
+  move_bytes m (Take space fs) s k u may id before h = absurd k
+  move_bytes m (Seal time form n size fs) s k u may id before h = absurd k
+  move_bytes m (Forget space) s k u may id before h = forget_holds space s id before h
+  move_bytes m (Ack space n after) s k u may id before h = absurd u
+  move_bytes m (Fire after) s k u may id before h = fire_holds m after s id before k h
+  move_bytes m (Begin space opens) s k u may id before h = same_holds id before s _ (begin_same space opens s id) h
+  move_bytes m (Write bytes keys session) s k u may id before h = nil_kept id before (state_move (Write bytes keys session) s) (write_by bytes keys session s id before may (same_or id s.keys.highest) h)
+  move_bytes m ReportReady s k u may id before h = absurd k
+  move_bytes m ReportConnected s k u may id before h = absurd k
+  move_bytes m ReportHeard s k u may id before h = absurd k
+  move_bytes m ReportAllHeard s k u may id before h = absurd k
+  move_bytes m ReportStream s k u may id before h = absurd k
+  move_bytes m ReportStreams s k u may id before h = absurd k
+  move_bytes m ReportLost s k u may id before h = absurd k
+  move_bytes m ReportNotice s k u may id before h = absurd k
+  move_bytes m ReportNotices s k u may id before h = absurd k
+  move_bytes m ReportDrained s k u may id before h = absurd k
+  move_bytes m x s k u may id before h = same_holds id before s _ (still_same m x s id tt k may) h
 
   -- ---- a packet that is taken and sealed
 
@@ -336,7 +339,7 @@ module _ {C : Type 0} where
   acked_append : (id : SpaceId) (xs ys : List (RecoveryStep C)) → laws.acked_in id (xs ++ ys) ≡ laws.acked_in id xs ++ laws.acked_in id ys
   acked_append id [] ys = refl
   acked_append id (laws.Sent space number packet ∷ xs) ys = acked_append id xs ys
-  acked_append id (laws.Settled space after ∷ xs) ys =
+  acked_append id (laws.Settled space ack after ∷ xs) ys =
       let front : List Entry = in_space id space after.acked in
       ap (λ (es : List Entry). front ++ es) (acked_append id xs ys) ∙ sym (append_assoc front (laws.acked_in id xs) (laws.acked_in id ys))
   acked_append id (laws.Fired after ∷ xs) ys = acked_append id xs ys
@@ -355,58 +358,46 @@ unowed_by opened true h o = let shut : opened ≡ false = h refl in absurd cc
 unowed_by opened false h o = refl
 
 module _ {t : Types} where
-  keeps_next : (m : Meaning t) (ds es : List Did) (u v w : View t) → KeepsBytes m ds u v → KeepsBytes m es v w → KeepsBytes m (ds ++ es) u w
-  unfolding recovers_next
-  keeps_next m ds es u v w g h = record {
-    recovers = recovers_next m ds es u v w g.recovers h.recovers;
-    bytes = λ id before k. subst (λ (xs : List Entry). CryptoKept id xs w)
-        (append_assoc before (laws.acked_in id g.recovers.steps) (laws.acked_in id h.recovers.steps) ∙ ap (λ (xs : List Entry). before ++ xs) (sym (acked_append id g.recovers.steps h.recovers.steps)))
-        (h.bytes id (before ++ laws.acked_in id g.recovers.steps) (g.bytes id before k));
-  }
+  -- with the packets that these steps acknowledged
+  abbrev Bytes : List Did → List (RecoveryStep t.C) → View t → View t → Type 0
+  Bytes ds xs s s' = (id : SpaceId) (before : List Entry) → CryptoKept id before s → CryptoKept id (before ++ laws.acked_in id xs) s'
 
-  record Keeping (m : Meaning t) (a b : At t) : Type 0 where
-    pub since : List Did
-    pub appended : b.did ≡ a.did ++ since
-    pub over : KeepsBytes m since a.state b.state
+  bytes_none : (s : View t) → Bytes [] [] s s
+  bytes_none s = λ id before h. nil_kept id before s h
 
-  keeping_here : (m : Meaning t) (a : At t) → Keeping m a a
-  keeping_here m a = record { since = []; appended = sym (append-nil a.did); over = record { recovers = record { steps = []; may = tt; leads = refl; sent = λ id. refl }; bytes = λ id before h. nil_kept id before a.state h } }
+  bytes_next : (ds es : List Did) (xs ys : List (RecoveryStep t.C)) (u v w : View t) → Bytes ds xs u v → Bytes es ys v w → Bytes (ds ++ es) (xs ++ ys) u w
+  bytes_next ds es xs ys u v w g h = λ id before k. subst (λ (acked : List Entry). CryptoKept id acked w)
+      (append_assoc before (laws.acked_in id xs) (laws.acked_in id ys) ∙ ap (λ (acked : List Entry). before ++ acked) (sym (acked_append id xs ys)))
+      (h id (before ++ laws.acked_in id xs) (g id before k))
 
-  keeping_next : (m : Meaning t) (a b c : At t) → Keeping m a b → Keeping m b c → Keeping m a c
-  keeping_next m a b c g h = record {
-    since = g.since ++ h.since;
-    appended = h.appended ∙ ap (λ (x : List Did). x ++ h.since) g.appended ∙ append_assoc a.did g.since h.since;
-    over = keeps_next m g.since h.since a.state b.state c.state g.over h.over;
-  }
+  ack_bytes : (m : Meaning t) (time : ℕ) (space : SpaceId) (ack : AckValue) (s : View t) →
+      let after : After t.C = settled_by m time space ack s in
+      Bytes (did.Gave layer.Recovery (spelling (frames.Ack ack)) ∷ []) (laws.Settled space ack after ∷ []) s (state_move (Ack space ack.largest after) s)
+  ack_bytes m time space ack s = λ id before h. ack_by m space ack.largest (settled_by m time space ack s) s id before (same_or id space) (record { time = time; ack = ack; is = refl }) h
 
-  keeping_move : (m : Meaning t) (x : Move t) (a : At t) → IsKnownMove m x a.state → MayMove x a.state → Keeping m a (move_to x a)
-  unfolding move_to
-  keeping_move m x a k may =
-      let parts = move_parts m x a.state k may in
-      record {
-        since = deeds_move x a.state;
-        appended = told_appends a.did (deeds_move x a.state);
-        over = record { recovers = record { steps = steps_of x a.state; may = parts.0; leads = parts.1; sent = parts.2 }; bytes = move_bytes m x a.state k may };
-      }
-
-  keeping_packet : (m : Meaning t) (time : ℕ) (form : Form) (fs : List FrameValue) (a : At t) → IsSealable time a.state form fs → Ends a.state →
-      Keeping m a (move_to (Seal time form (next_number a.state.numbers (number_space form)) (packet_size a.state form fs) fs) (move_to (Take (number_space form) fs) a))
-  unfolding steps_of state_move lower_move streams_stepped datagrams_stepped paths_move keys_move deeds_move move_to waiting_move waiting_without frames_sealed ids_stepped
-  keeping_packet m time form fs a may ends =
+  seal_bytes : (time : ℕ) (form : Form) (fs : List FrameValue) (s : View t) → IsSealable time s form fs → Ends s →
+      let n : ℕ = next_number s.numbers (number_space form) in
+      let size : ℕ = packet_size s form fs in
+      Bytes (did.Sealed (number_space form) n (epoch_in s.keys form) (is_early form) fs ∷ []) (if s.waiting.close_owed then [] else laws.Sent (number_space form) n (flown_packet time size fs) ∷ []) s
+      (state_move (Seal time form n size fs) (state_move (Take (number_space form) fs) s))
+  seal_bytes time form fs s may ends =
       let space : SpaceId = number_space form in
-      let n : ℕ = next_number a.state.numbers space in
-      let size : ℕ = packet_size a.state form fs in
-      let owed : Bool = a.state.waiting.close_owed in
-      let sealed = seal_folds m time n size space (epoch_in a.state.keys form) (is_early form) fs (state_move (Take space fs) a.state) owed (λ e. may.closes (shut_rank a.state.life.state (ends.owed e))) in
-      record {
-        since = did.Sealed space n (epoch_in a.state.keys form) (is_early form) fs ∷ [];
-        appended = refl;
-        over = record {
-          recovers = record { steps = if owed then [] else laws.Sent space n (flown_packet time size fs) ∷ []; may = sealed.0; leads = sealed.1; sent = sealed.2 };
-          bytes = λ id before h. subst (λ (es : List Entry). CryptoKept id (before ++ es) (state_move (Seal time form n size fs) (state_move (Take space fs) a.state))) (sym (owed_acked t.C id owed space n (flown_packet time size fs)))
-              (seal_kept time n size form fs a.state id before (same_or id space) (unowed_by (is_open a.state.life.state) owed ends.owed) h);
-        };
-      }
+      let n : ℕ = next_number s.numbers space in
+      let size : ℕ = packet_size s form fs in
+      λ id before h. subst (λ (es : List Entry). CryptoKept id (before ++ es) (state_move (Seal time form n size fs) (state_move (Take space fs) s))) (sym (owed_acked t.C id s.waiting.close_owed space n (flown_packet time size fs)))
+      (seal_kept time n size form fs s id before (same_or id space) (unowed_by (is_open s.life.state) s.waiting.close_owed ends.owed) h)
+
+  -- over deeds, with recovery's steps
+  record Keeping (m : Meaning t) (ds : List Did) (s s' : View t) : Type 0 where
+    pub covers : Covers m ds s s'
+    pub bytes : Bytes ds covers.steps s s'
+
+  keeping_next : (m : Meaning t) (ds es : List Did) (u v w : View t) → Keeping m ds u v → Keeping m es v w → Keeping m (ds ++ es) u w
+  unfolding covers_next
+  keeping_next m ds es u v w g h = record {
+    covers = covers_next m ds es u v w g.covers h.covers;
+    bytes = bytes_next ds es g.covers.steps h.covers.steps u v w g.bytes h.bytes;
+  }
 
   -- what is said of one view holds of another one with the same keys, life, streams and packets in flight
   same_view : (id : SpaceId) (acked : List Entry) (v w : View t) → w.keys.highest ≡ v.keys.highest → has_keys w.keys id ≡ has_keys v.keys id → is_open w.life.state ≡ is_open v.life.state → crypto_of id w ≡ crypto_of id v → flight_of id w ≡ flight_of id v →
@@ -416,31 +407,27 @@ module _ {t : Types} where
       (subst (λ (es : List Entry). CryptoHolds id acked w.keys.highest (is_open w.life.state) (has_keys w.keys id) (crypto_of id v) es) (sym flight)
       (record { sent = h.sent; above = λ e. h.above (ap (λ (x : SpaceId). is_below x id) (sym highest) ∙ e); holds = λ o k. h.holds (sym opened ∙ o) (sym keys ∙ k) }))
 
-  abbrev Keeps : Meaning t → At t → At t → Type 0
-  Keeps m a b = Ends a.state → Ends b.state × Keeping m a b
-
-  step_keeps : (m : Meaning t) (k : ℕ) (s : View t) (i : Input) (x : Step) (s' : View t) → IsStep m k s i x s' → Ends s → KeepsBytes m x.did s s'
+  step_keeps : (m : Meaning t) (k : ℕ) (s : View t) (i : Input) (x : Step) (s' : View t) → IsStep m k s i x s' → Ends s → Keeping m x.did s s'
   unfolding called began run.step_after reported state_move lower_move events_told streams_stepped datagrams_stepped paths_move keys_move life_move waiting_move ready_reported connected_reported all_heard_reported lost_reported notice_reported notices_reported drained_reported frames_sealed ids_stepped
   step_keeps m k s i x s' h ends =
       let a : At t = began s (time_of i) in
       let b : At t = input_after m i h.choice a in
-      let both = known_input m (Keeps m) (λ c e. (e, keeping_here m c)) (λ c d f g j e. let first = g e in let second = j first.0 in (second.0, keeping_next m c d f first.1 second.1))
-      (λ y c known may. λ e. (known_keeps m y c known may e, keeping_move m y c known may))
-      (λ time id fs c may. λ e. (ends_seal time id fs c may e, keeping_packet m time id fs c may e)) i h.choice a h.allowed (began_ends s (time_of i) ends) in
-      let kept : Keeping m a b = both.1 in
-      let deeds : x.did ≡ kept.since = h.deeds ∙ kept.appended in
-      let r = kept.over.recovers in
-      subst (λ (ds : List Did). KeepsBytes m ds s s') (sym deeds) (record {
-        recovers = record { steps = r.steps; may = r.may; leads = kept_same s' (run.step_after m s i h.choice) h.lower h.paths ∙ r.leads; sent = r.sent };
-        bytes = λ id before p. same_view id (before ++ laws.acked_in id r.steps) b.state s' (ap (λ (v : KeyGroup t.H t.P). v.highest) h.keys) (ap (λ (v : KeyGroup t.H t.P). has_keys v id) h.keys) (ap (λ (v : Life). is_open v.state) h.life)
+      let both = input_part m Bytes (λ y. Unit {0}) (λ y u. tt) bytes_none bytes_next (λ y v known p unacked may. move_bytes m y v known unacked may) (ack_bytes m) seal_bytes (λ y. tt) i h.choice a h.allowed (began_ends s (time_of i) ends) in
+      let part = both.1 in
+      subst (λ (ds : List Did). Keeping m ds s s') (sym (h.deeds ∙ part.appended)) (record {
+        covers = record { steps = part.steps; fold = fold_from m part.since part.steps s a.state b.state s' refl (kept_same s' (run.step_after m s i h.choice) h.lower h.paths) part.fold; hears = part.hears };
+        bytes = λ id before p. same_view id (before ++ laws.acked_in id part.steps) b.state s' (ap (λ (v : KeyGroup t.H t.P). v.highest) h.keys) (ap (λ (v : KeyGroup t.H t.P). has_keys v id) h.keys) (ap (λ (v : Life). is_open v.state) h.life)
             (ap (λ (v : Waiting). (space_of v.spaces id).crypto) h.waiting) (ap (λ (v : Lower t.S). (recovery.space_of id v.recovery).flight) h.lower)
-            (kept.over.bytes id before (record { sent = p.sent; above = p.above; holds = p.holds }));
+            (part.also id before (record { sent = p.sent; above = p.above; holds = p.holds }));
       })
 
-  pub run_keeps_bytes : (m : Meaning t) (k : ℕ) (s : View t) (is : List Input) (xs : List Step) (s' : View t) → Run m k s is xs s' → Ends s → KeepsBytes m (deeds_of xs) s s'
+  run_keeps : (m : Meaning t) (k : ℕ) (s : View t) (is : List Input) (xs : List Step) (s' : View t) → Run m k s is xs s' → Ends s → Keeping m (deeds_of xs) s s'
   unfolding Run
-  run_keeps_bytes m k s [] [] s' r ends = subst (λ (v : View t). KeepsBytes m [] s v) (sym r) (record { recovers = record { steps = []; may = tt; leads = refl; sent = λ id. refl }; bytes = λ id before h. nil_kept id before s h })
-  run_keeps_bytes m k s (i ∷ is) (x ∷ xs) s' r ends =
-      keeps_next m x.did (deeds_of xs) s r.0 s' (step_keeps m k s i x r.0 r.1 ends) (run_keeps_bytes m (k + 1) r.0 is xs s' r.2 (step_ends m k s i x r.0 r.1 ends))
-  run_keeps_bytes m k s [] (x ∷ xs) s' r ends = absurd r
-  run_keeps_bytes m k s (i ∷ is) [] s' r ends = absurd r
+  run_keeps m k s [] [] s' r ends = subst (λ (v : View t). Keeping m [] s v) (sym r) (record { covers = covers_same m s s refl; bytes = bytes_none s })
+  run_keeps m k s (i ∷ is) (x ∷ xs) s' r ends =
+      keeping_next m x.did (deeds_of xs) s r.0 s' (step_keeps m k s i x r.0 r.1 ends) (run_keeps m (k + 1) r.0 is xs s' r.2 (step_ends m k s i x r.0 r.1 ends))
+  run_keeps m k s [] (x ∷ xs) s' r ends = absurd r
+  run_keeps m k s (i ∷ is) [] s' r ends = absurd r
+
+  pub run_keeps_bytes : (m : Meaning t) (k : ℕ) (s : View t) (is : List Input) (xs : List Step) (s' : View t) → Run m k s is xs s' → Ends s → KeepsBytes m (deeds_of xs) s s'
+  run_keeps_bytes m k s is xs s' r ends = let kept = run_keeps m k s is xs s' r ends in record { recovers = recovers_by m (deeds_of xs) s s' kept.covers; bytes = kept.bytes }

@@ -10,7 +10,10 @@ use Rattle.qc_datagrams.specs.Steps as datagrams
 use Rattle.qc_flight.specs.Packets.{Entry}
 use Rattle.qc_flight.specs.declared.sent.SentPacket.{SentPacket}
 use Rattle.qc_flight.specs.declared.stream_frames.StreamMeta.{StreamMeta}
-use Rattle.qc_frame.specs.Frame.{FrameValue}
+use Rattle.qc_frame.specs.Frame.{AckValue, FrameValue}
+use Rattle.qc_frame.specs.FrameSpelling.{spelling}
+use Rattle.qc_frame.specs.declared.frames.FrameOf.TheVariants as frames
+use Rattle.qc_recovery.specs.Steps.{After}
 use Rattle.qc_recovery.specs.declared.calls.Fired.{Fired}
 use Rattle.qc_recovery.specs.declared.calls.Fired.TheVariants as fired
 use Rattle.qc_streams.specs.Waits.{Step, BytesAcked, ControlAcked, ControlLost, after}
@@ -20,6 +23,7 @@ use Rattle.qc_streams.specs.declared.state.StreamsState.{StreamsState}
 use Rattle.qc_streams.proofs.StepsLaw.{after_append}
 use Rattle.qc_state.specs.declared.deeds.Did.{Did}
 use Rattle.qc_state.specs.declared.deeds.Did.TheVariants as did
+use Rattle.qc_state.specs.declared.deeds.Layer.TheVariants as layer
 use Rattle.qc_state.specs.declared.form.Form.{Form}
 use Rattle.qc_state.specs.declared.input.Input.{Input}
 use Rattle.qc_state.specs.declared.input.Input.TheVariants as input
@@ -30,9 +34,10 @@ use Rattle.qc_state.specs.Forms.{is_early, number_space}
 use Rattle.qc_state.specs.Headline.{deeds_of}
 use Rattle.qc_state.specs.Keys.{epoch_in}
 use Rattle.qc_state.specs.Lower.{datagrams_stepped, events_told, frames_sealed, ids_stepped, streams_stepped}
-use Rattle.qc_state.specs.Moves.{Ack, Begin, Call, Fire, Hand, Issue, MayMove, Move, Post, ReportStream, ReportStreams, Seal, Take, deeds_move, is_call, keys_move, lower_move, move_to, paths_move, state_move, waiting_move}
+use Rattle.qc_state.specs.Moves.{Ack, Begin, Call, Fire, Hand, Issue, MayMove, Move, Post, ReportStream, ReportStreams, Seal, Take, deeds_move, is_call, lower_move, move_to, paths_move, state_move, waiting_move}
 use Rattle.qc_state.specs.Numbers.{next_number}
 use Rattle.qc_state.specs.Offers.{again_steps, begun_steps, oldest_in, probe_steps, wants_sending}
+use Rattle.qc_state.specs.Recovering.{settled_by}
 use Rattle.qc_state.specs.Run.{IsAllowed, IsStep, Run, answer_of, began, called, called_all, datagram_limit, input_after, reported, time_of}
 use Rattle.qc_state.specs.Run as run
 use Rattle.qc_state.specs.Sending.{Choice, packet_size}
@@ -42,22 +47,22 @@ use Rattle.qc_state.specs.Streams.{asked_for, calls_of, events_of, steps_of_fram
 use Rattle.qc_state.specs.Types.{Types, Meaning}
 use Rattle.qc_state.specs.View.{View, At}
 use Rattle.qc_state.specs.Waiting.{probe_spent, waiting_without}
-use Rattle.qc_state.proofs.Telling.{told_appends}
+use Rattle.qc_state.proofs.OpenPackets.{IsUnacked}
 use Rattle.qc_state.proofs.Transmitted.{IsSealable}
 use Rattle.qc_laws.specs.AckedLaws.{AcksFrames, all_acked, is_acked}
 use Rattle.qc_laws.specs.EndLaws.{Ends}
 use Rattle.qc_laws.specs.EventLaws.{OnlyDoneWaits}
 use Rattle.qc_laws.specs.EventLaws as events
-use Rattle.qc_laws.specs.RecoveryLaws.{Capped, Dropped, Fired as TimerFired, Probed, RecoveryStep, Recovers, Sent, Settled, Spent, Told, kept, steps_of}
+use Rattle.qc_laws.specs.RecoveryLaws.{Capped, Dropped, Fired as TimerFired, Probed, RecoveryStep, Sent, Settled, Spent, Told, kept, steps_of}
 use Rattle.qc_laws.specs.StreamsLaws.{AreMade, MakesEvent, is_asked, is_came, is_sealed, is_streams_call, streams_steps, streams_told, with_steps}
-use Rattle.qc_laws.proofs.EndsHold.{began_ends, ends_seal, known_keeps, step_ends}
+use Rattle.qc_laws.proofs.EndsHold.{began_ends, step_ends}
 use Rattle.qc_laws.proofs.EventsTold.{called_done, step_done}
 use Rattle.qc_laws.proofs.HarmlessTests.{first_holds, second_holds}
-use Rattle.qc_laws.proofs.KnownMoves.{IsKnownMove, IsUncalled, is_called, known_other, uncalled_streams}
-use Rattle.qc_laws.proofs.Recovers.{kept_same, move_parts, recovers_next, seal_folds, shut_rank}
+use Rattle.qc_laws.proofs.KnownMoves.{IsKnownMove, IsUncalled, is_called, uncalled_streams}
+use Rattle.qc_laws.proofs.RecoveryFold.{Covers, covers_next, covers_same, fold_from, kept_same, other_part, recovers_by}
 use Rattle.qc_laws.proofs.StreamCalls.{AreCalls, calls_may}
 use Rattle.qc_laws.proofs.StreamsFold.{called_did, called_streams, events_append, events_wait, flown_streams, move_folds, none_called}
-use Rattle.qc_laws.proofs.StreamsMade.{Are, are_append, asked_are, calls_all, calls_are, frame_all, none_are, other_are, sealed_are}
+use Rattle.qc_laws.proofs.StreamsMade.{Are, apart_are, are_append, asked_are, calls_all, calls_are, frame_all, none_are, other_are, sealed_are}
 use Rattle.qc_laws.proofs.StreamsSealed.{sealed_all}
 
 -- ---- steps that acknowledge nothing
@@ -186,7 +191,7 @@ module _ {C : Type 0} where
   all_acked_append : (xs ys : List (RecoveryStep C)) → all_acked (xs ++ ys) ≡ all_acked xs ++ all_acked ys
   all_acked_append [] ys = refl
   all_acked_append (Sent space number packet ∷ xs) ys = all_acked_append xs ys
-  all_acked_append (Settled space left ∷ xs) ys = ap (λ (es : List Entry). left.acked ++ es) (all_acked_append xs ys) ∙ sym (append_assoc left.acked (all_acked xs) (all_acked ys))
+  all_acked_append (Settled space ack left ∷ xs) ys = ap (λ (es : List Entry). left.acked ++ es) (all_acked_append xs ys) ∙ sym (append_assoc left.acked (all_acked xs) (all_acked ys))
   all_acked_append (TimerFired fires ∷ xs) ys = all_acked_append xs ys
   all_acked_append (Dropped space ∷ xs) ys = all_acked_append xs ys
   all_acked_append (Spent tokens ∷ xs) ys = all_acked_append xs ys
@@ -210,101 +215,81 @@ owed_unacked C true space n packet xs h = h
 owed_unacked C false space n packet xs h = h
 
 module _ {t : Types} where
-  -- ---- moves
+  -- ---- from one view to another, of an input that is no call of the streams
 
-  move_acked : (m : Meaning t) (x : Move t) (s : View t) → IsKnownMove m x s → IsUncalled x → AckSame (streams_steps x s) (steps_of x s)
-  unfolding streams_steps steps_of acked_steps
-  move_acked m (Take id fs) s k u = absurd k
-  move_acked m (Seal time form n size fs) s k u = absurd k
-  move_acked m (Begin id opens) s k u = begun_all id opens s
-  move_acked m (Ack id n r) s k u = settled_acked r.acked r.lost
-  move_acked m (Fire r) s k u = fired_all r.fired
-  move_acked m (Hand frame) s k u = kind_unacked is_came came_unacked (steps_of_frame frame s.lower.streams) (frame_all frame s.lower.streams)
-  move_acked m (Call x) s k u = absurd u
-  move_acked m ReportStream s k u = absurd k
-  move_acked m ReportStreams s k u = absurd k
-  move_acked m x s k u = refl
-
-  -- ---- from one moment to another of an input, where it is no call of the streams
-
-  record Tied (m : Meaning t) (a b : At t) : Type 0 where
-    pub since : List Did
-    pub appended : b.did ≡ a.did ++ since
+  -- the streams made steps that acknowledge so
+  record Tied (ds : List Did) (xs : List (RecoveryStep t.C)) (s s' : View t) : Type 0 where
     pub steps : List Step
-    pub leads : b.state.lower.streams ≡ after steps a.state.lower.streams
-    pub are : Are steps since [] [] a.state.lower.streams
-    pub recovers : Recovers m since a.state b.state
-    pub acked : AckSame steps recovers.steps
+    pub leads : s'.lower.streams ≡ after steps s.lower.streams
+    pub are : Are steps ds [] [] s.lower.streams
+    pub acked : AckSame steps xs
 
-  tied_here : (m : Meaning t) (a : At t) → Tied m a a
+  tied_none : (s : View t) → Tied [] [] s s
   unfolding after acked_steps
-  tied_here m a = record {
-    since = [];
-    appended = sym (append-nil a.did);
-    steps = [];
-    leads = refl;
-    are = none_are a.state.lower.streams;
-    recovers = record { steps = []; may = tt; leads = refl; sent = λ id. refl };
-    acked = refl;
-  }
+  tied_none s = record { steps = []; leads = refl; are = none_are s.lower.streams; acked = refl }
 
-  tied_next : (m : Meaning t) (a b c : At t) → Tied m a b → Tied m b c → Tied m a c
-  unfolding recovers_next
-  tied_next m a b c g h =
-      let s : StreamsState = a.state.lower.streams in
+  tied_next : (ds es : List Did) (xs ys : List (RecoveryStep t.C)) (u v w : View t) → Tied ds xs u v → Tied es ys v w → Tied (ds ++ es) (xs ++ ys) u w
+  tied_next ds es xs ys u v w g h =
+      let s : StreamsState = u.lower.streams in
       record {
-        since = g.since ++ h.since;
-        appended = h.appended ∙ ap (λ (x : List Did). x ++ h.since) g.appended ∙ append_assoc a.did g.since h.since;
         steps = g.steps ++ h.steps;
         leads = h.leads ∙ ap (λ (x : StreamsState). after h.steps x) g.leads ∙ sym (after_append g.steps h.steps s);
-        are = are_append g.steps h.steps g.since h.since [] [] [] [] s g.are (subst (λ (x : StreamsState). Are h.steps h.since [] [] x) g.leads h.are);
-        recovers = recovers_next m g.since h.since a.state b.state c.state g.recovers h.recovers;
-        acked = same_append g.steps h.steps g.recovers.steps h.recovers.steps g.acked h.acked;
+        are = are_append g.steps h.steps ds es [] [] [] [] s g.are (subst (λ (x : StreamsState). Are h.steps es [] [] x) g.leads h.are);
+        acked = same_append g.steps h.steps xs ys g.acked h.acked;
       }
 
-  tied_move : (m : Meaning t) (x : Move t) (a : At t) → IsKnownMove m x a.state → IsUncalled x → MayMove x a.state → Tied m a (move_to x a)
-  unfolding move_to
-  tied_move m x a known plain may =
-      let folds = move_folds m x a.state known plain may in
-      let parts = move_parts m x a.state known may in
+  move_acked : (m : Meaning t) (x : Move t) (s : View t) → IsKnownMove m x s → IsUncalled x → IsUnacked x → AckSame (streams_steps x s) (steps_of x s)
+  unfolding streams_steps steps_of acked_steps
+  move_acked m (Take id fs) s k c u = absurd k
+  move_acked m (Seal time form n size fs) s k c u = absurd k
+  move_acked m (Begin id opens) s k c u = begun_all id opens s
+  move_acked m (Ack id n r) s k c u = absurd u
+  move_acked m (Fire r) s k c u = fired_all r.fired
+  move_acked m (Hand frame) s k c u = kind_unacked is_came came_unacked (steps_of_frame frame s.lower.streams) (frame_all frame s.lower.streams)
+  move_acked m (Call x) s k c u = absurd c
+  move_acked m ReportStream s k c u = absurd k
+  move_acked m ReportStreams s k c u = absurd k
+  move_acked m x s k c u = refl
+
+  tied_move : (m : Meaning t) (x : Move t) (s : View t) → IsKnownMove m x s → IsUncalled x → IsUnacked x → MayMove x s → Tied (deeds_move x s) (steps_of x s) s (state_move x s)
+  tied_move m x s known plain unacked may =
+      let folds = move_folds m x s known plain may in
+      record { steps = streams_steps x s; leads = folds.0; are = folds.1; acked = move_acked m x s known plain unacked }
+
+  -- recovery is given an ACK
+  tied_ack : (m : Meaning t) (time : ℕ) (space : SpaceId) (ack : AckValue) (s : View t) →
+      let left : After t.C = settled_by m time space ack s in
+      Tied (did.Gave layer.Recovery (spelling (frames.Ack ack)) ∷ []) (Settled space ack left ∷ []) s (state_move (Ack space ack.largest left) s)
+  unfolding streams_steps deeds_move MayMove after
+  tied_ack m time space ack s =
+      let left : After t.C = settled_by m time space ack s in
+      let d : Did = did.Gave layer.Recovery (spelling (frames.Ack ack)) in
+      let steps : List Step = acked_steps left.acked ++ lost_steps left.lost in
+      let folds = move_folds m (Ack space ack.largest left) s (record { time = time; ack = ack; is = refl }) tt tt in
       record {
-        since = deeds_move x a.state;
-        appended = told_appends a.did (deeds_move x a.state);
-        steps = streams_steps x a.state;
+        steps = steps;
         leads = folds.0;
-        are = folds.1;
-        recovers = record { steps = steps_of x a.state; may = parts.0; leads = parts.1; sent = parts.2 };
-        acked = move_acked m x a.state known plain;
+        are = are_append [] steps (d ∷ []) [] [] [] [] [] s.lower.streams (apart_are (d ∷ []) s.lower.streams refl refl refl) folds.1;
+        acked = settled_acked left.acked left.lost;
       }
 
-  tied_packet : (m : Meaning t) (time : ℕ) (form : Form) (fs : List FrameValue) (a : At t) → IsSealable time a.state form fs → Ends a.state →
-      Tied m a (move_to (Seal time form (next_number a.state.numbers (number_space form)) (packet_size a.state form fs) fs) (move_to (Take (number_space form) fs) a))
-  unfolding steps_of state_move lower_move streams_stepped datagrams_stepped paths_move keys_move deeds_move move_to waiting_move waiting_without frames_sealed ids_stepped
-  tied_packet m time form fs a may ends =
+  tied_packet : (time : ℕ) (form : Form) (fs : List FrameValue) (s : View t) → IsSealable time s form fs → Ends s →
+      let n : ℕ = next_number s.numbers (number_space form) in
+      let size : ℕ = packet_size s form fs in
+      Tied (did.Sealed (number_space form) n (epoch_in s.keys form) (is_early form) fs ∷ []) (if s.waiting.close_owed then [] else Sent (number_space form) n (flown_packet time size fs) ∷ []) s
+      (state_move (Seal time form n size fs) (state_move (Take (number_space form) fs) s))
+  unfolding state_move lower_move streams_stepped datagrams_stepped waiting_move waiting_without frames_sealed ids_stepped
+  tied_packet time form fs s may ends =
       let space : SpaceId = number_space form in
-      let n : ℕ = next_number a.state.numbers space in
-      let size : ℕ = packet_size a.state form fs in
-      let owed : Bool = a.state.waiting.close_owed in
-      let b : View t = state_move (Take space fs) a.state in
-      let sealed = seal_folds m time n size space (epoch_in a.state.keys form) (is_early form) fs b owed (λ e. may.closes (shut_rank a.state.life.state (ends.owed e))) in
+      let n : ℕ = next_number s.numbers space in
+      let size : ℕ = packet_size s form fs in
+      let owed : Bool = s.waiting.close_owed in
       record {
-        since = did.Sealed space n (epoch_in a.state.keys form) (is_early form) fs ∷ [];
-        appended = refl;
         steps = sealed_steps fs;
-        leads = flown_streams owed b.lower space n (flown_packet time size fs);
-        are = sealed_are space n (epoch_in a.state.keys form) (is_early form) fs a.state.lower.streams may.takes;
-        recovers = record { steps = if owed then [] else Sent space n (flown_packet time size fs) ∷ []; may = sealed.0; leads = sealed.1; sent = sealed.2 };
+        leads = flown_streams owed (state_move (Take space fs) s).lower space n (flown_packet time size fs);
+        are = sealed_are space n (epoch_in s.keys form) (is_early form) fs s.lower.streams may.takes;
         acked = owed_unacked t.C owed space n (flown_packet time size fs) (sealed_steps fs) (kind_unacked is_sealed sealed_unacked (sealed_steps fs) (sealed_all fs));
       }
-
-  abbrev Keeps : Meaning t → At t → At t → Type 0
-  Keeps m a b = Ends a.state → Ends b.state × Tied m a b
-
-  input_tied : (m : Meaning t) (i : Input) (choice : Choice) (a : At t) → is_called i ≡ false → IsAllowed m i choice a → Keeps m a (input_after m i choice a)
-  input_tied m i choice a uncalled may =
-      known_other m (Keeps m) (λ c e. (e, tied_here m c)) (λ c d f g j e. let first = g e in let second = j first.0 in (second.0, tied_next m c d f first.1 second.1))
-      (λ y c known plain may_be. λ e. (known_keeps m y c known may_be e, tied_move m y c known plain may_be))
-      (λ time form fs c may_be. λ e. (ends_seal time form fs c may_be e, tied_packet m time form fs c may_be e)) i choice a uncalled may
 
   -- ---- inputs
 
@@ -315,12 +300,12 @@ module _ {t : Types} where
     pub leads : s'.lower.streams ≡ after steps s.lower.streams
     pub are : Are steps ds calls asked s.lower.streams
     pub same : OnlyDoneWaits s.life → asked ≡ told
-    pub recovers : Recovers m ds s s'
-    pub acked : AckSame steps recovers.steps
+    pub covers : Covers m ds s s'
+    pub acked : AckSame steps covers.steps
 
   over_next : (m : Meaning t) (ds es : List Did) (calls others : List (Input × TraceStep)) (told later : List StreamEvent) (u v w : View t) → (OnlyDoneWaits u.life → OnlyDoneWaits v.life) →
       Over m ds calls told u v → Over m es others later v w → Over m (ds ++ es) (calls ++ others) (told ++ later) u w
-  unfolding recovers_next
+  unfolding covers_next
   over_next m ds es calls others told later u v w stays g h =
       let s : StreamsState = u.lower.streams in
       record {
@@ -329,8 +314,8 @@ module _ {t : Types} where
         leads = h.leads ∙ ap (λ (x : StreamsState). after h.steps x) g.leads ∙ sym (after_append g.steps h.steps s);
         are = are_append g.steps h.steps ds es calls others g.asked h.asked s g.are (subst (λ (x : StreamsState). Are h.steps es others h.asked x) g.leads h.are);
         same = λ done. ap (λ (es : List StreamEvent). es ++ h.asked) (g.same done) ∙ ap (λ (es : List StreamEvent). told ++ es) (h.same (stays done));
-        recovers = recovers_next m ds es u v w g.recovers h.recovers;
-        acked = same_append g.steps h.steps g.recovers.steps h.recovers.steps g.acked h.acked;
+        covers = covers_next m ds es u v w g.covers h.covers;
+        acked = same_append g.steps h.steps g.covers.steps h.covers.steps g.acked h.acked;
       }
 
   -- calls leave what recovery keeps
@@ -348,17 +333,19 @@ module _ {t : Types} where
   other_does m i x choice s uncalled may ends =
       let a : At t = began s (time_of i) in
       let none : is_streams_call i ≡ false = uncalled_streams i uncalled in
-      let both = input_tied m i choice a uncalled may (began_ends s (time_of i) ends) in
-      let tied : Tied m a (input_after m i choice a) = both.1 in
+      let b : At t = input_after m i choice a in
+      let both = other_part m Tied IsUncalled (λ y u. u) tied_none tied_next (tied_move m) (tied_ack m) tied_packet i choice a uncalled may (began_ends s (time_of i) ends) in
+      let part = both.1 in
+      let tied : Tied part.since part.steps a.state b.state = part.also in
       let makes : [] ≡ calls_of i choice.read (after tied.steps s.lower.streams) = none_called i choice.read (after tied.steps s.lower.streams) none in
-      subst (λ (ds : List Did). Over m ds ((i, x) ∷ []) [] s (input_after m i choice a).state) (sym tied.appended)
+      subst (λ (ds : List Did). Over m ds ((i, x) ∷ []) [] s b.state) (sym part.appended)
       (record {
         steps = tied.steps;
         asked = [];
         leads = tied.leads;
-        are = other_are i x choice.read tied.steps tied.since s.lower.streams none makes tied.are;
+        are = other_are i x choice.read tied.steps part.since s.lower.streams none makes tied.are;
         same = λ done. refl;
-        recovers = record { steps = tied.recovers.steps; may = tied.recovers.may; leads = tied.recovers.leads; sent = tied.recovers.sent };
+        covers = record { steps = part.steps; fold = fold_from m part.since part.steps s a.state b.state b.state refl refl part.fold; hears = part.hears };
         acked = tied.acked;
       })
 
@@ -373,7 +360,7 @@ module _ {t : Types} where
         leads = refl;
         are = other_are i x choice.read [] [] s.lower.streams none makes (none_are s.lower.streams);
         same = λ done. refl;
-        recovers = record { steps = []; may = tt; leads = refl; sent = λ id. refl };
+        covers = covers_same m s (move_to (Post step) (began s (time_of i))).state refl;
         acked = refl;
       }
 
@@ -388,7 +375,7 @@ module _ {t : Types} where
         leads = refl;
         are = other_are i x choice.read [] [] s.lower.streams none makes (none_are s.lower.streams);
         same = λ done. refl;
-        recovers = record { steps = []; may = tt; leads = refl; sent = λ id. refl };
+        covers = covers_same m s (move_to (Issue time given) (began s (time_of i))).state refl;
         acked = refl;
       }
 
@@ -413,7 +400,7 @@ module _ {t : Types} where
         leads = called_streams xs a;
         are = calls_are i x choice.read s.lower.streams calls answers;
         same = λ done. refl;
-        recovers = record { steps = []; may = tt; leads = called_kept xs a; sent = λ id. refl };
+        covers = covers_same m s (called_all xs a).state (called_kept xs a);
         acked = kind_unacked is_call call_unacked xs (calls_all xs s.lower.streams calls);
       })
 
@@ -430,7 +417,7 @@ module _ {t : Types} where
         leads = ap (λ (l : Lower t.S). l.streams) h.lower;
         are = asked_are b.state.lower.streams;
         same = λ done. sym (ap streams_told h.events ∙ events_wait b.state done.heard);
-        recovers = record { steps = []; may = tt; leads = kept_same s' (run.step_after m s i h.choice) h.lower h.paths; sent = λ id. refl };
+        covers = covers_same m b.state s' (kept_same s' (run.step_after m s i h.choice) h.lower h.paths);
         acked = asked_unacked (length told);
       } in
       subst (λ (ds : List Did). Over m ds ((i, x) ∷ []) (streams_told x.events) s s') (append-nil b.did ∙ sym h.deeds)
@@ -445,7 +432,7 @@ module _ {t : Types} where
     leads = ap (λ (v : View t). v.lower.streams) r;
     are = none_are s.lower.streams;
     same = λ done. refl;
-    recovers = record { steps = []; may = tt; leads = ap (λ (v : View t). kept v) r; sent = λ id. refl };
+    covers = covers_same m s s' (ap (λ (v : View t). kept v) r);
     acked = refl;
   }
   run_over m k s (i ∷ is) (x ∷ xs) s' r ends =
@@ -459,7 +446,7 @@ module _ {t : Types} where
   run_acks_frames m k s is xs s' r ends =
       let o = run_over m k s is xs s' r ends in
       record {
-        recovers = o.recovers;
+        recovers = recovers_by m (deeds_of xs) s s' o.covers;
         streams = record {
           steps = o.steps;
           may = o.are.may;

@@ -12,7 +12,7 @@ use Rattle.qc_state.specs.declared.input.Input.TheVariants as input
 use Rattle.qc_state.specs.declared.life.Close.{Close}
 use Rattle.qc_state.specs.declared.life.State.TheVariants.{Drained}
 use Rattle.qc_state.specs.Forms.{number_space}
-use Rattle.qc_state.specs.Life.{is_open}
+use Rattle.qc_state.specs.Life.{is_open, is_over}
 use Rattle.qc_state.specs.Moves.{Ack, Ask, Clock, Finish, Fire, MayMove, Move, Raise, ReportConnected, ReportDrained, ReportLost, ReportReady, ReportNotice, ReportNotices, Seal, Shut, Spend, Take, move_to, Call, ReportStream, ReportStreams, Tell, Post, ReportHeard, ReportAllHeard, Issue, Learn}
 use Rattle.qc_state.specs.Numbers.{next_number}
 use Rattle.qc_state.specs.Receiving.{datagram_after}
@@ -22,7 +22,7 @@ use Rattle.qc_state.specs.Sending.{Choice, packet_size, rate_of, spent_after, to
 use Rattle.qc_state.specs.Types.{Types, Meaning}
 use Rattle.qc_state.specs.View.{View, At}
 use Rattle.qc_state.proofs.Expired.{IsExpiry, holds_expired}
-use Rattle.qc_state.proofs.OpenPackets.{holds_packet}
+use Rattle.qc_state.proofs.OpenPackets.{IsUnacked, holds_packet, packet_received}
 use Rattle.qc_state.proofs.PacketMoves.{IsInPacket, IsSettledOf, OpenPacket, IsGivenTo, IsToldOf}
 use Rattle.qc_state.proofs.ReceivedMoves.{IsOutside, IsUnread}
 use Rattle.qc_laws.proofs.Receives.{datagram_holds}
@@ -235,7 +235,7 @@ IsUncalled (Post x) = ⊥
 IsUncalled (Issue time given) = ⊥
 IsUncalled _ = Unit {0}
 
-packet_uncalled : {t : Types} (m : Meaning t) (o : OpenPacket) (x : Move t) (s : View t) → IsInPacket m o x s → IsUncalled x
+pub packet_uncalled : {t : Types} (m : Meaning t) (o : OpenPacket) (x : Move t) (s : View t) → IsInPacket m o x s → IsUncalled x
 packet_uncalled m o (Call x) s h = absurd h
 packet_uncalled m o (Post x) s h = absurd h
 packet_uncalled m o (Issue time given) s h = absurd h
@@ -259,53 +259,85 @@ sending_uncalled (Post x) h = absurd h
 sending_uncalled (Issue time given) h = absurd h
 sending_uncalled _ h = tt
 
--- what holds of no move, of two moves one after the other, of each move that is known so and is no such call, where it may be made, and of
--- the two with which a packet is taken and sealed, holds of an input that is no such call
+-- it is none by which recovery is given an ACK, but in a packet that opened
+outside_unacked : {t : Types} (time : ℕ) (x : Move t) (s : View t) → IsOutside time x s → IsUnacked x
+outside_unacked time (Ack id n after) s h = absurd h
+outside_unacked time (Tell (did.Gave to body)) s h = absurd h
+outside_unacked time _ s h = tt
+
+expiry_unacked : {t : Types} (x : Move t) → IsExpiry x → IsUnacked x
+expiry_unacked (Ack id n after) h = absurd h
+expiry_unacked (Tell d) h = absurd h
+expiry_unacked _ h = tt
+
+sending_unacked : {t : Types} (x : Move t) → IsUntold x → IsUnacked x
+sending_unacked (Ack id n after) h = absurd h
+sending_unacked (Tell d) h = absurd h
+sending_unacked _ h = tt
+
+-- what holds of no move, of two moves one after the other, of each move that is known so and is neither such a call nor one by which
+-- recovery is given an ACK, where it may be made, of the two with which a packet is taken and sealed, and of each packet that opened, holds
+-- of an input that is no such call
 module _ {t : Types} (m : Meaning t) (R : At t → At t → Type 0) (here : (a : At t) → R a a) (next : (a b c : At t) → R a b → R b c → R a c)
-    (move : (x : Move t) (a : At t) → IsKnownMove m x a.state → IsUncalled x → MayMove x a.state → R a (move_to x a))
+    (move : (x : Move t) (a : At t) → IsKnownMove m x a.state → IsUncalled x → IsUnacked x → MayMove x a.state → R a (move_to x a))
+    (packet : (o : OpenPacket) (a : At t) → is_over a.state.life.state ≡ false → R a (packet_received m o a))
     (seal : (time : ℕ) (form : Form) (fs : List FrameValue) (a : At t) → IsSealable time a.state form fs → R a (move_to (Seal time form (next_number a.state.numbers (number_space form)) (packet_size a.state form fs) fs) (move_to (Take (number_space form) fs) a))) where
   -- a datagram
   known_datagram : (coming : Coming) (bytes : List ℕ) (a : At t) → R a (datagram_after m coming bytes a)
   known_datagram coming bytes a =
-      datagram_holds m coming (λ p. Unit {0}) R here next (λ x b h may. move x b (outside_known m coming.time x b.state h) (outside_uncalled coming.time x b.state h) may)
-      (λ p comes o b opened. holds_packet m o R here next (λ x c h may. move x c (packet_known m o x c.state h) (packet_uncalled m o x c.state h) may) b opened.lively)
-      bytes a (λ p among. tt)
+      datagram_holds m coming (λ p. Unit {0}) R here next (λ x b h may. move x b (outside_known m coming.time x b.state h) (outside_uncalled coming.time x b.state h) (outside_unacked coming.time x b.state h) may)
+      (λ p comes o b opened. packet o b opened.lively) bytes a (λ p among. tt)
 
   -- the application closes, or has closed before
   closed_by : (time : ℕ) (close : Close) (a : At t) (b : Bool) → is_open a.state.life.state ≡ b → R a (if b then move_to (Shut time close) a else a)
   unfolding MayMove
-  closed_by time close a true h = move (Shut time close) a tt tt (open_rank a.state.life.state h)
+  closed_by time close a true h = move (Shut time close) a tt tt tt (open_rank a.state.life.state h)
   closed_by time close a false h = here a
 
   -- each input
-  pub known_other : (i : Input) (choice : Choice) (a : At t) → is_called i ≡ false → IsAllowed m i choice a → R a (input_after m i choice a)
+  pub known_packets : (i : Input) (choice : Choice) (a : At t) → is_called i ≡ false → IsAllowed m i choice a → R a (input_after m i choice a)
   unfolding IsAllowed input_after close_after spent_after told_sent MayMove
-  known_other (input.Datagram time remote ecn bytes) choice a none h = known_datagram (record { time = time; remote = remote; mark = ecn }) bytes a
-  known_other (input.Timeout time) choice a none h =
-      holds_expired m R here next (λ at_time b. move (Fire (fired_by m at_time b.state)) b (record { time = at_time; is = refl }) tt tt) (λ x e b may. move x b (expiry_known m x b.state e) (expiry_uncalled x e) may) time a
-  known_other (input.Transmit time max) choice a none h =
-      transmit_told m R here next (λ x r b may. move x b (sending_known m x b.state r) (sending_uncalled x r) may)
-      (λ at_time size b. move (Spend _) b (record { time = at_time; size = size; is = refl }) tt tt)
-      (λ at_time batch b. move (Finish batch.total _) b (record { time = at_time; bytes = batch.total; last = batch.last; is = refl }) tt tt) seal time max choice a h
-  known_other (input.Close time code reason) choice a none h = closed_by time _ a _ refl
-  known_other (input.Ping time) choice a none h = move (Ask a.state.keys.highest) a tt tt tt
-  known_other _ choice a none h = cc
+  known_packets (input.Datagram time remote ecn bytes) choice a none h = known_datagram (record { time = time; remote = remote; mark = ecn }) bytes a
+  known_packets (input.Timeout time) choice a none h =
+      holds_expired m R here next (λ at_time b. move (Fire (fired_by m at_time b.state)) b (record { time = at_time; is = refl }) tt tt tt)
+      (λ x e b may. move x b (expiry_known m x b.state e) (expiry_uncalled x e) (expiry_unacked x e) may) time a
+  known_packets (input.Transmit time max) choice a none h =
+      transmit_told m R here next (λ x r b may. move x b (sending_known m x b.state r) (sending_uncalled x r) (sending_unacked x r) may)
+      (λ at_time size b. move (Spend _) b (record { time = at_time; size = size; is = refl }) tt tt tt)
+      (λ at_time batch b. move (Finish batch.total _) b (record { time = at_time; bytes = batch.total; last = batch.last; is = refl }) tt tt tt) seal time max choice a h
+  known_packets (input.Close time code reason) choice a none h = closed_by time _ a _ refl
+  known_packets (input.Ping time) choice a none h = move (Ask a.state.keys.highest) a tt tt tt tt
+  known_packets _ choice a none h = cc
+
+-- what holds of each move that is known so and is no such call holds of an input that is none
+module _ {t : Types} (m : Meaning t) (R : At t → At t → Type 0) (here : (a : At t) → R a a) (next : (a b c : At t) → R a b → R b c → R a c)
+    (move : (x : Move t) (a : At t) → IsKnownMove m x a.state → IsUncalled x → MayMove x a.state → R a (move_to x a))
+    (seal : (time : ℕ) (form : Form) (fs : List FrameValue) (a : At t) → IsSealable time a.state form fs → R a (move_to (Seal time form (next_number a.state.numbers (number_space form)) (packet_size a.state form fs) fs) (move_to (Take (number_space form) fs) a))) where
+  pub known_other : (i : Input) (choice : Choice) (a : At t) → is_called i ≡ false → IsAllowed m i choice a → R a (input_after m i choice a)
+  known_other i choice a none h =
+      known_packets m R here next (λ x b known uncalled unacked may. move x b known uncalled may)
+      (λ o b lively. holds_packet m o R here next (λ x c in_packet may. move x c (packet_known m o x c.state in_packet) (packet_uncalled m o x c.state in_packet) may) b lively) seal i choice a none h
+
+-- what holds of an input that is no such call, and of each move of the others, holds of each input
+module _ {t : Types} (m : Meaning t) (R : At t → At t → Type 0) (here : (a : At t) → R a a) (next : (a b c : At t) → R a b → R b c → R a c)
+    (other : (i : Input) (choice : Choice) (a : At t) → is_called i ≡ false → IsAllowed m i choice a → R a (input_after m i choice a))
+    (move : (x : Move t) (a : At t) → IsKnownMove m x a.state → IsUnacked x → MayMove x a.state → R a (move_to x a)) where
+  pub known_calls : (i : Input) (choice : Choice) (a : At t) → IsAllowed m i choice a → R a (input_after m i choice a)
+  unfolding IsAllowed input_after MayMove
+  known_calls (input.Datagram time remote ecn bytes) choice a h = other (input.Datagram time remote ecn bytes) choice a refl h
+  known_calls (input.Timeout time) choice a h = other (input.Timeout time) choice a refl h
+  known_calls (input.Transmit time max) choice a h = other (input.Transmit time max) choice a refl h
+  known_calls (input.Close time code reason) choice a h = other (input.Close time code reason) choice a refl h
+  known_calls (input.Ping time) choice a h = other (input.Ping time) choice a refl h
+  known_calls (input.SendDatagram time body) choice a h = move (Post (datagrams.Sent (datagram_limit a.state) true body)) a tt tt refl
+  known_calls (input.RecvDatagram time) choice a h = move (Post datagrams.Taken) a tt tt refl
+  known_calls (input.Identifiers time given) choice a h = move (Issue time given) a tt tt h
+  known_calls i choice a h = called_input R here next (λ x b may. move (Call x) b tt tt may) i choice.read a h
 
 -- what holds of each move that is known so, too, holds of an input
 module _ {t : Types} (m : Meaning t) (R : At t → At t → Type 0) (here : (a : At t) → R a a) (next : (a b c : At t) → R a b → R b c → R a c)
     (move : (x : Move t) (a : At t) → IsKnownMove m x a.state → MayMove x a.state → R a (move_to x a))
     (seal : (time : ℕ) (form : Form) (fs : List FrameValue) (a : At t) → IsSealable time a.state form fs → R a (move_to (Seal time form (next_number a.state.numbers (number_space form)) (packet_size a.state form fs) fs) (move_to (Take (number_space form) fs) a))) where
-  other : (i : Input) (choice : Choice) (a : At t) → is_called i ≡ false → IsAllowed m i choice a → R a (input_after m i choice a)
-  other i choice a none h = known_other m R here next (λ x b known uncalled may. move x b known may) seal i choice a none h
-
   pub known_input : (i : Input) (choice : Choice) (a : At t) → IsAllowed m i choice a → R a (input_after m i choice a)
-  unfolding IsAllowed input_after MayMove
-  known_input (input.Datagram time remote ecn bytes) choice a h = other (input.Datagram time remote ecn bytes) choice a refl h
-  known_input (input.Timeout time) choice a h = other (input.Timeout time) choice a refl h
-  known_input (input.Transmit time max) choice a h = other (input.Transmit time max) choice a refl h
-  known_input (input.Close time code reason) choice a h = other (input.Close time code reason) choice a refl h
-  known_input (input.Ping time) choice a h = other (input.Ping time) choice a refl h
-  known_input (input.SendDatagram time body) choice a h = move (Post (datagrams.Sent (datagram_limit a.state) true body)) a tt refl
-  known_input (input.RecvDatagram time) choice a h = move (Post datagrams.Taken) a tt refl
-  known_input (input.Identifiers time given) choice a h = move (Issue time given) a tt h
-  known_input i choice a h = called_input R here next (λ x b may. move (Call x) b tt may) i choice.read a h
+  known_input i choice a h =
+      known_calls m R here next (λ j c b none may. known_other m R here next (λ x d known uncalled may_be. move x d known may_be) seal j c b none may) (λ x b known unacked may. move x b known may) i choice a h

@@ -41,6 +41,8 @@ pub mod ToldReceiving
 pub mod WholeDatagrams
 pub mod EndsHold
 pub mod KnownMoves
+pub mod HeardAcks
+pub mod RecoveryFold
 pub mod Recovers
 pub mod InitialDeeds
 pub mod InitialLeft

@@ -4,7 +4,9 @@ use Rattle.qc_assembler.specs.Assembly.{Assembly, advanced, inserted}
 use Rattle.qc_assembler.specs.Reads.{AreReads, IsRead, after, after_step, all_read}
 use Rattle.qc_assembler.specs.Reads as reads
 use Rattle.qc_base.specs.declared.side.SpaceId.{SpaceId}
-use Rattle.qc_frame.specs.Frame.{FrameValue}
+use Rattle.qc_frame.specs.Frame.{AckValue, FrameValue}
+use Rattle.qc_frame.specs.FrameSpelling.{spelling}
+use Rattle.qc_frame.specs.declared.frames.FrameOf.TheVariants as frames
 use Rattle.qc_state.specs.declared.coming.Coming.{Coming}
 use Rattle.qc_state.specs.declared.deeds.Did.{Did}
 use Rattle.qc_state.specs.declared.deeds.Did.TheVariants as did
@@ -21,6 +23,7 @@ use Rattle.qc_state.specs.Life.{is_open, is_over}
 use Rattle.qc_state.specs.Lower.{bytes_came, flight_dropped, packets_settled, ready_bytes, session_read, session_wrote, stream_of, timer_fired, limits_learned, frame_handed, streams_closed, streams_stepped, events_told, event_told, datagrams_stepped, frames_sealed, ids_stepped}
 use Rattle.qc_state.specs.Moves.{Accept, Ack, Ask, Begin, Come, Enter, Fire, Forget, Move, Read, Seal, Shut, Take, Tell, Write, deeds_move, lower_move, move_to, state_move, Hand, Call, Post, Issue}
 use Rattle.qc_state.specs.Numbers.{next_number}
+use Rattle.qc_state.specs.Recovering.{settled_by}
 use Rattle.qc_state.specs.Receiving.{datagram_after}
 use Rattle.qc_state.specs.Run.{IsAllowed, IsStep, Run, began, called, close_after, input_after, reported, step_after, time_of, datagram_limit}
 use Rattle.qc_state.specs.Sending.{Choice, packet_size}
@@ -30,7 +33,7 @@ use Rattle.qc_state.specs.Types.{Types, Meaning}
 use Rattle.qc_state.specs.View.{View, At}
 use Rattle.qc_laws.proofs.CryptoPlaces.{same_or}
 use Rattle.qc_state.proofs.Expired.{IsTimed, holds_timeout}
-use Rattle.qc_state.proofs.OpenPackets.{IsBeside, given_read, packet_beside, packet_received}
+use Rattle.qc_state.proofs.OpenPackets.{IsBeside, given_ack, given_read, packet_beside, packet_received}
 use Rattle.qc_state.proofs.PacketMoves.{IsInPacket, IsToldOf, OpenPacket}
 use Rattle.qc_laws.proofs.PieceLaws.{received_tells}
 use Rattle.qc_state.proofs.Probed.{begun_streams}
@@ -79,7 +82,7 @@ module _ {t : Types} (id : SpaceId) where
   -- what is told in a packet, beside what the session is given
   told_stays : (o : OpenPacket) (d : Did) (s : View t) → IsToldOf o d s → IsBeside {t = t} (Tell d) → (last_of id (is_space id o.space) (d ∷ []) ≡ is_space id o.space) × (session_bytes id (is_space id o.space) (d ∷ []) ≡ [])
   told_stays o (did.Gave layer.Session body) s h beside = absurd beside
-  told_stays o (did.Gave layer.Recovery body) s h beside = (refl, refl)
+  told_stays o (did.Gave layer.Recovery body) s h beside = absurd beside
   told_stays o (did.Gave layer.Life body) s h beside = (refl, refl)
   told_stays o (did.Gave layer.Ids body) s h beside = (refl, refl)
   told_stays o (did.Gave layer.Streams body) s h beside = (refl, refl)
@@ -124,10 +127,19 @@ module _ {t : Types} (id : SpaceId) where
     given = ap (λ (b : Bool). (if b then x ∷ bytes else []) ++ []) other;
   }
 
+  -- recovery is given an ACK
+  ack_within : (m : Meaning t) (o : OpenPacket) (now : Bool) (ack : AckValue) (a : At t) → Within now a (given_ack m o ack a)
+  unfolding lower_move deeds_move packets_settled streams_stepped stream_of ids_stepped
+  ack_within m o now ack a =
+      let d : Did = did.Gave layer.Recovery (spelling (frames.Ack ack)) in
+      let b : At t = move_to (Tell d) a in
+      within_next now a b _ (still_within now (Tell d) a refl refl refl) (still_within now (Ack o.space ack.largest (settled_by m o.coming.time o.space ack a.state)) b refl refl refl)
+
   -- each other move of a packet
   move_within : (m : Meaning t) (o : OpenPacket) (x : Move t) (a : At t) → IsInPacket m o x a.state → IsBeside x → Within (is_space id o.space) a (move_to x a)
   unfolding lower_move deeds_move flight_dropped packets_settled session_wrote limits_learned frame_handed streams_closed event_told events_told streams_stepped datagrams_stepped stream_of frames_sealed ids_stepped
   move_within m o (Read space count session) a h beside = absurd beside
+  move_within m o (Ack space n after) a h beside = absurd beside
   move_within m o (Seal time form n size fs) a h beside = absurd h
   move_within m o (Begin space opens) a h beside = absurd h
   move_within m o (Fire after) a h beside = absurd h
@@ -173,7 +185,8 @@ module _ {t : Types} (id : SpaceId) where
   packet_kept : (m : Meaning t) (o : OpenPacket) (a : At t) → is_over a.state.life.state ≡ false → Kept a (packet_received m o a)
   packet_kept m o a lively =
       let w : Within (is_space id o.space) a (packet_received m o a) =
-      packet_beside m o (Within (is_space id o.space)) (within_here (is_space id o.space)) (within_next (is_space id o.space)) (λ x b h beside may. move_within m o x b h beside) (λ x bytes b ready. gave_within m o x bytes b ready (same_or id o.space)) a lively in
+      packet_beside m o (Within (is_space id o.space)) (within_here (is_space id o.space)) (within_next (is_space id o.space)) (λ x b h beside may. move_within m o x b h beside) (λ x bytes b ready. gave_within m o x bytes b ready (same_or id o.space))
+      (λ ack b among. ack_within m o (is_space id o.space) ack b) a lively in
       let told = received_tells m o.coming o.space o.spin o.source o.token o.number o.payload a in
       let first = same_since a.did w.since _ (sym w.appended ∙ told.appended) in
       record {

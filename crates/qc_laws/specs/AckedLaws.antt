@@ -21,7 +21,7 @@ module _ {C : Type 0} where
   -- the packets that steps of loss recovery acknowledged, in order, of whatever space
   abbrev pub all_acked : List (RecoveryStep C) → List Entry
   all_acked [] = []
-  all_acked (Settled space after ∷ xs) = after.acked ++ all_acked xs
+  all_acked (Settled space ack after ∷ xs) = after.acked ++ all_acked xs
   all_acked (Sent space number packet ∷ xs) = all_acked xs
   all_acked (Fired after ∷ xs) = all_acked xs
   all_acked (Dropped space ∷ xs) = all_acked xs
@@ -33,7 +33,8 @@ module _ {C : Type 0} where
 module _ {t : Types} where
   -- From one view to another, over inputs whose trace is this, loss recovery and the streams made steps. Those with which frames of streams are
   -- acknowledged are the ones of the frames in the packets that recovery acknowledged, in order, none left out and none made up. And such a
-  -- packet was sealed with these frames, where it wasn't in flight before, and an ACK acknowledges its number, as recovery's steps say.
+  -- packet was sealed with these frames, where it wasn't in flight before, and an ACK in an admitted packet acknowledges its number, as
+  -- recovery's steps say.
   pub record AcksFrames (m : Meaning t) (is : List Input) (xs : List TraceStep) (s s' : View t) : Type 0 where
     pub recovers : Recovers m (deeds_of xs) s s'
     pub streams : FoldsStreams is xs s s'

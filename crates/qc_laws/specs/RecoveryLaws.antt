@@ -1,12 +1,13 @@
 -- Loss recovery as the fold of its own steps: over moves, and over whole runs (RFC 9002).
-use Rattle.std.specs.Prelude.{◌≡◌, ◌⊎◌, ℕ, min, true, if◌then◌else◌, List, [], ◌∷◌, ◌++◌, IsPermutation}
+use Rattle.std.specs.Prelude.{◌≡◌, ◌⊎◌, ℕ, min, ◌&&◌, Bool, true, false, if◌then◌else◌, List, [], ◌∷◌, ◌++◌, IsPermutation}
 use Rattle.std.specs.List.{list_any}
 use Rattle.qc_base.specs.declared.side.SpaceId.{SpaceId}
 use Rattle.qc_flight.specs.Packets.{Entry, has_number}
 use Rattle.qc_flight.specs.declared.sent.SentPacket.{SentPacket}
 use Rattle.qc_frame.specs.AckRanges.{Acknowledges}
 use Rattle.qc_frame.specs.Frame.{AckValue, FrameValue}
-use Rattle.qc_frame.specs.FrameSpelling.{elicits}
+use Rattle.qc_frame.specs.FrameSpelling.{elicits, spelling}
+use Rattle.qc_frame.specs.declared.frames.FrameOf.TheVariants as frames
 use Rattle.qc_path.specs.Mtu.{peer_known, probe_sent}
 use Rattle.qc_path.specs.Pacing.{Bucket, packet_paced}
 use Rattle.qc_path.specs.declared.controller.Controller.{Ghosts as Control}
@@ -20,12 +21,17 @@ use Rattle.qc_recovery.specs.declared.path.PathData.{PathData}
 use Rattle.qc_recovery.specs.declared.recovery.Recovery.{Recovery}
 use Rattle.qc_state.specs.declared.deeds.Did.{Did}
 use Rattle.qc_state.specs.declared.deeds.Did.TheVariants as did
+use Rattle.qc_state.specs.declared.deeds.Layer.TheVariants as layer
+use Rattle.qc_state.specs.declared.deeds.Verdict.{Verdict}
+use Rattle.qc_state.specs.declared.deeds.Verdict.TheVariants as verdict
 use Rattle.qc_state.specs.Flight.{counts_in_flight, flown_packet, kept_frames, metas_of}
 use Rattle.qc_state.specs.Forms.{number_space}
-use Rattle.qc_state.specs.Moves.{Move, Ack, Finish, Fire, Forget, Learn, Probe, Seal, Spend, is_close}
+use Rattle.qc_state.specs.Moves.{Move, Finish, Fire, Forget, Learn, Probe, Seal, Spend, is_close}
 use Rattle.qc_state.specs.Sending.{path_rate}
+use Rattle.qc_state.specs.Spaces.{is_space}
 use Rattle.qc_state.specs.Types.{Types, Meaning}
 use Rattle.qc_state.specs.View.{View}
+use Rattle.qc_laws.specs.StreamLaws.{is_of}
 
 -- ---- recovery's steps
 
@@ -39,7 +45,7 @@ pub record Kept (C : Type 0) : Type 0 where
 -- of the timer, of the pacer and of the controller what they leave
 pub data RecoveryStep (C : Type 0) : Type 0 where
   Sent : (space : SpaceId) → (number : ℕ) → (packet : SentPacket) → RecoveryStep C
-  Settled : (space : SpaceId) → (after : After C) → RecoveryStep C
+  Settled : (space : SpaceId) → (ack : AckValue) → (after : After C) → RecoveryStep C
   Fired : (after : FiredAfter C) → RecoveryStep C
   Dropped : (space : SpaceId) → RecoveryStep C
   Spent : (tokens : Bucket) → RecoveryStep C
@@ -51,7 +57,7 @@ module _ {C : Type 0} where
   -- what a step leaves
   unfoldable pub step_after : RecoveryStep C → Kept C → Kept C
   step_after (Sent space number packet) k = record k { recovery = sent_after space number packet k.recovery }
-  step_after (Settled space after) k = record { recovery = after.recovery; path = after.path }
+  step_after (Settled space ack after) k = record { recovery = after.recovery; path = after.path }
   step_after (Fired after) k = record { recovery = after.recovery; path = after.path }
   step_after (Dropped space) k = record { recovery = dropped_after space k.recovery; path = path_dropped space k.path }
   step_after (Spent tokens) k = record k { path = record k.path { pacing = tokens } }
@@ -66,11 +72,10 @@ module _ {C : Type 0} where
 
   -- an ACK leaves what recovery makes of it (RFC 9002, appendix A.7), and each packet that it shows to be acknowledged has a number that it
   -- acknowledges (RFC 9000, section 19.3)
-  pub record IsSettling (m : Control C) (space : SpaceId) (after : After C) (k : Kept C) : Type 0 where
+  pub record IsSettling (m : Control C) (space : SpaceId) (ack : AckValue) (after : After C) (k : Kept C) : Type 0 where
     pub now : ℕ
     pub next : ℕ
     pub began : ℕ
-    pub ack : AckValue
     pub around : Around
     pub is : after ≡ ack_after m now space next began (values_of ack) (ranges_up_of ack) around k.recovery k.path
     pub named : (n : ℕ) → has_number n after.acked ≡ true → Acknowledges ack n
@@ -97,7 +102,7 @@ module _ {C : Type 0} where
   -- a step may be made
   abbrev pub MayStep : Control C → RecoveryStep C → Kept C → Type 0
   MayStep m (Sent space number packet) k = Unit {0}
-  MayStep m (Settled space after) k = IsSettling m space after k
+  MayStep m (Settled space ack after) k = IsSettling m space ack after k
   MayStep m (Fired after) k = IsFiring m after k
   MayStep m (Dropped space) k = Unit {0}
   MayStep m (Spent tokens) k = IsSpent m tokens k
@@ -114,7 +119,7 @@ module _ {C : Type 0} where
   abbrev pub sent_in : SpaceId → List (RecoveryStep C) → List Entry
   sent_in id [] = []
   sent_in id (Sent space number packet ∷ xs) = in_space id space ((number, packet) ∷ []) ++ sent_in id xs
-  sent_in id (Settled space after ∷ xs) = sent_in id xs
+  sent_in id (Settled space ack after ∷ xs) = sent_in id xs
   sent_in id (Fired after ∷ xs) = sent_in id xs
   sent_in id (Dropped space ∷ xs) = sent_in id xs
   sent_in id (Spent tokens ∷ xs) = sent_in id xs
@@ -126,7 +131,7 @@ module _ {C : Type 0} where
   -- the packets of a space that steps acknowledged, in order
   abbrev pub acked_in : SpaceId → List (RecoveryStep C) → List Entry
   acked_in id [] = []
-  acked_in id (Settled space after ∷ xs) = in_space id space after.acked ++ acked_in id xs
+  acked_in id (Settled space ack after ∷ xs) = in_space id space after.acked ++ acked_in id xs
   acked_in id (Sent space number packet ∷ xs) = acked_in id xs
   acked_in id (Fired after ∷ xs) = acked_in id xs
   acked_in id (Dropped space ∷ xs) = acked_in id xs
@@ -135,6 +140,18 @@ module _ {C : Type 0} where
   acked_in id (Capped size ∷ xs) = acked_in id xs
   acked_in id (Probed time number ∷ xs) = acked_in id xs
 
+  -- the ACKs of a space by which steps settle, in order, as they are spelled
+  abbrev pub acks_in : SpaceId → List (RecoveryStep C) → List (List ℕ)
+  acks_in id [] = []
+  acks_in id (Settled space ack after ∷ xs) = (if is_space id space then spelling (frames.Ack ack) ∷ [] else []) ++ acks_in id xs
+  acks_in id (Sent space number packet ∷ xs) = acks_in id xs
+  acks_in id (Fired after ∷ xs) = acks_in id xs
+  acks_in id (Dropped space ∷ xs) = acks_in id xs
+  acks_in id (Spent tokens ∷ xs) = acks_in id xs
+  acks_in id (Told control ∷ xs) = acks_in id xs
+  acks_in id (Capped size ∷ xs) = acks_in id xs
+  acks_in id (Probed time number ∷ xs) = acks_in id xs
+
 -- ---- which steps a move is
 
 module _ {t : Types} where
@@ -142,11 +159,10 @@ module _ {t : Types} where
   abbrev pub kept : View t → Kept t.C
   kept s = record { recovery = s.lower.recovery; path = s.paths.current.kept }
 
-  -- which of recovery's steps a move is
+  -- which of recovery's steps a move is; that of an ACK comes with the deed that tells of it
   unfoldable pub steps_of : Move t → View t → List (RecoveryStep t.C)
   steps_of (Seal time form n size fs) s = if s.waiting.close_owed then [] else Sent (number_space form) n (flown_packet time size fs) ∷ []
   steps_of (Forget id) s = Dropped id ∷ []
-  steps_of (Ack id n after) s = Settled id after ∷ []
   steps_of (Fire after) s = Fired after ∷ []
   steps_of (Spend tokens) s = Spent tokens ∷ []
   steps_of (Finish bytes control) s = Told control ∷ []
@@ -176,15 +192,32 @@ AreFlown id (did.Sealed space n epoch early fs ∷ ds) es =
     (front : List Entry) × (rest : List Entry) × (es ≡ in_space id space front ++ rest) × IsFlown n fs front × AreFlown id ds rest
 AreFlown id (_ ∷ ds) es = AreFlown id ds es
 
+-- ---- what settles came
+
+-- a packet that came was admitted
+abbrev pub is_admitted : Verdict → Bool
+is_admitted verdict.Admitted = true
+is_admitted _ = false
+
+-- what deeds give to recovery in admitted packets of a space, in order: that is, behind a packet that came and before the next one; `now`
+-- says whether the packet before these deeds was such a one
+abbrev pub given_to_recovery : SpaceId → (now : Bool) → List Did → List (List ℕ)
+given_to_recovery id now [] = []
+given_to_recovery id now (did.Piece space number v ∷ ds) = given_to_recovery id (is_admitted v && is_of id space) ds
+given_to_recovery id now (did.Gave layer.Recovery body ∷ ds) = (if now then body ∷ [] else []) ++ given_to_recovery id now ds
+given_to_recovery id now (_ ∷ ds) = given_to_recovery id now ds
+
 module _ {t : Types} where
   -- From one view to another, between which these deeds were done, recovery made steps: each of them may be made as its turn comes, and
-  -- what recovery keeps is what they leave. And the packets that they put in flight in a space are those that the deeds sealed
-  -- there, but for closes. So whatever holds over any calls of recovery holds over these.
+  -- what recovery keeps is what they leave. The packets that they put in flight in a space are those that the deeds sealed
+  -- there, but for closes; and the ACKs by which they settle there are those that the deeds give to recovery in admitted packets of the
+  -- space, in order, none left out and none made up. So whatever holds over any calls of recovery holds over these.
   pub record Recovers (m : Meaning t) (ds : List Did) (s s' : View t) : Type 0 where
     pub steps : List (RecoveryStep t.C)
     pub may : AllMay m.control steps (kept s)
     pub leads : kept s' ≡ steps_after steps (kept s)
     pub sent : (id : SpaceId) → AreFlown id ds (sent_in id steps)
+    pub heard : (id : SpaceId) → acks_in id steps ≡ given_to_recovery id false ds
 
 -- Of a space, with these packets in flight before and those behind: each that was in flight, or was sealed there since and holds no close,
 -- was acknowledged, or lost, or left with the space as its keys were dropped, or is in flight, and that once.

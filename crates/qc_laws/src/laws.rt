@@ -135,8 +135,10 @@ pub fn initial_is_left<U: Suite>()
 
 /// A law, which runs no code. Over a run what loss recovery keeps, of the packets and of the path, is what its own steps leave, one after
 /// the other: each is a packet that was sealed, an ACK that came, the loss timer that fired, or a space whose keys were dropped, and what
-/// recovery makes of it; or what the pacer spends of a packet, or that the controller is told what was sent. The packets that are put in flight are those that were sealed, but for closes. So each packet that was in flight or
-/// was sealed is acknowledged, lost, dropped with its space or in flight, and that once (RFC 9002).
+/// recovery makes of it; or what the pacer spends of a packet, or that the controller is told what was sent. The ACKs of a space are those that
+/// the deeds give to recovery in admitted packets of the space, in order, none left out and none made up; and packets that one of them shows
+/// to be acknowledged have numbers that it acknowledges. The packets that are put in flight are those that were sealed, but for closes. So
+/// each packet that was in flight or was sealed is acknowledged, lost, dropped with its space or in flight, and that once (RFC 9002).
 pub fn recovery_is_folded<U: Suite>()
     ensures folded { (s last : View ⟦<U as Means>⟧.types) (k : ℕ) (is : List Input) (xs : List Step) → Run ⟦<U as Means>⟧.meaning k s is xs last → Ends s → Recovers ⟦<U as Means>⟧.meaning (deeds_of xs) s last }
     ensures settled { (s last : View ⟦<U as Means>⟧.types) (k : ℕ) (is : List Input) (xs : List Step) → Run ⟦<U as Means>⟧.meaning k s is xs last → Ends s → EachSettlesOnce (deeds_of xs) s last }
@@ -155,7 +157,7 @@ pub fn streams_are_folded<U: Suite>()
 
 /// A law, which runs no code. Over a run the frames of streams that are acknowledged are those in the packets that loss recovery acknowledged,
 /// in order, none left out and none made up: the streams are told of no other. Such a packet was sealed with these frames, where it wasn't in
-/// flight at the start, and an ACK acknowledges its number. So a stream is finished only by acknowledgements of packets that held what was
+/// flight at the start, and an ACK in an admitted packet acknowledges its number. So a stream is finished only by acknowledgements of packets that held what was
 /// written on it (RFC 9000, 3.1 and 13.3).
 pub fn frames_are_acknowledged<U: Suite>()
     ensures { (s last : View ⟦<U as Means>⟧.types) (k : ℕ) (is : List Input) (xs : List Step) → Run ⟦<U as Means>⟧.meaning k s is xs last → Ends s → AcksFrames ⟦<U as Means>⟧.meaning is xs s last }

@@ -117,7 +117,7 @@ module _ {t : Types} where
   ended_stays m coming id (Err fault ∷ items) a = ended_stays m coming id items a
 
   -- what is told leaves what an ACK settles
-  told_settled : (m : Meaning t) (time : ℕ) (space : SpaceId) (ack : AckValue) (d : Did) (s : View t) → settled_by m time space ack s ≡ settled_by m time space ack (state_move (Tell d) s)
+  pub told_settled : (m : Meaning t) (time : ℕ) (space : SpaceId) (ack : AckValue) (d : Did) (s : View t) → settled_by m time space ack s ≡ settled_by m time space ack (state_move (Tell d) s)
   unfolding state_move numbers_move keys_move life_move paths_move timers_move waiting_move setup_move lower_move
   told_settled m time space ack d s = refl
 
@@ -151,22 +151,41 @@ module _ {t : Types} where
   abbrev pub given_read : Meaning t → OpenPacket → (first : ℕ) → (bytes : List ℕ) → At t → At t
   given_read m o x bytes a = move_to (Read o.space (length (x ∷ bytes)) (m.after_read a.state.lower.session (x ∷ bytes))) (move_to (Tell (did.Gave layer.Session (x ∷ bytes))) a)
 
+  -- recovery is given an ACK: this is told, and recovery makes of it what it does
+  abbrev pub given_ack : Meaning t → OpenPacket → AckValue → At t → At t
+  given_ack m o ack a = move_to (Ack o.space ack.largest (settled_by m o.coming.time o.space ack a.state)) (move_to (Tell (did.Gave layer.Recovery (spelling (frames.Ack ack)))) a)
+
   -- the moves beside those two
+  abbrev pub IsUnacked : Move t → Type 0
+  IsUnacked (Ack id n after) = ⊥
+  IsUnacked (Tell (did.Gave layer.Recovery body)) = ⊥
+  IsUnacked _ = Unit {0}
+
+  -- the moves beside these and those by which the session is given bytes
   abbrev pub IsBeside : Move t → Type 0
   IsBeside (Read id count session) = ⊥
+  IsBeside (Ack id n after) = ⊥
   IsBeside (Tell (did.Gave layer.Session body)) = ⊥
+  IsBeside (Tell (did.Gave layer.Recovery body)) = ⊥
   IsBeside _ = Unit {0}
+
+  beside_unacked : (x : Move t) → IsBeside x → IsUnacked x
+  beside_unacked (Ack id n after) h = absurd h
+  beside_unacked (Tell (did.Gave layer.Recovery body)) h = absurd h
+  beside_unacked _ h = tt
 
   progress_beside : (m : Meaning t) (time : ℕ) (id : SpaceId) (x : Move t) (s : View t) → IsProgress m time id x s → IsBeside x
   progress_beside m time id (Read space count session) s h = absurd h
+  progress_beside m time id (Ack space n after) s h = absurd h
   progress_beside m time id (Tell d) s h = absurd h
   progress_beside m time id _ s h = tt
 
--- what holds of no move, of two moves one after the other, of the two by which the session is given bytes, and of each other move that
--- the packet makes, where it may be made, holds of the packet
+-- what holds of no move, of two moves one after the other, of the two by which the session is given bytes, of the two by which recovery is
+-- given an ACK, and of each other move that the packet makes, where it may be made, holds of the packet
 module _ {t : Types} (m : Meaning t) (o : OpenPacket) (R : At t → At t → Type 0) (here : (a : At t) → R a a) (next : (a b c : At t) → R a b → R b c → R a c)
     (move : (x : Move t) (a : At t) → IsInPacket m o x a.state → IsBeside x → MayMove x a.state → R a (move_to x a))
-    (gave : (x : ℕ) (bytes : List ℕ) (a : At t) → x ∷ bytes ≡ ready_bytes (stream_of a.state.lower o.space) → R a (given_read m o x bytes a)) where
+    (gave : (x : ℕ) (bytes : List ℕ) (a : At t) → x ∷ bytes ≡ ready_bytes (stream_of a.state.lower o.space) → R a (given_read m o x bytes a))
+    (acked : (ack : AckValue) (a : At t) → IsFrameOf o (frames.Ack ack) → R a (given_ack m o ack a)) where
   -- a frame of this type stops nothing by its kind
   abbrev GoesOn : View t → (type : ℕ) → FrameValue → Type 0
   GoesOn s type f = stop_in s.setup.fixed.side o.space (next_number s.numbers o.space) s.numbers.filter.last type f ≡ None
@@ -220,15 +239,10 @@ module _ {t : Types} (m : Meaning t) (o : OpenPacket) (R : At t → At t → Typ
   holds_rearmed (e ∷ es) a = armed a
 
   holds_acked : (ack : AckValue) (a : At t) → IsFrameOf o (frames.Ack ack) → R a (acked_after m o.coming.time o.space ack a)
-  unfolding acked_after settled_after MayMove move_to
+  unfolding acked_after settled_after
   holds_acked ack a h =
-      let d : Did = did.Gave layer.Recovery (spelling (frames.Ack ack)) in
-      let after = settled_by m o.coming.time o.space ack a.state in
-      let b : At t = move_to (Tell d) a in
-      let c : At t = move_to (Ack o.space ack.largest after) b in
-      next a b _ (move (Tell d) a (frames.Ack ack, h, tt, refl) tt tt)
-      (next b c _ (move (Ack o.space ack.largest after) b (record { ack = ack; among = h; space = refl; greatest = refl; settled = told_settled m o.coming.time o.space ack d a.state }) tt tt)
-      (holds_rearmed after.acked c))
+      let b : At t = given_ack m o ack a in
+      next a b _ (acked ack a h) (holds_rearmed (settled_by m o.coming.time o.space ack a.state).acked b)
 
   -- a close of the peer's is given to the life
   holds_given_close : (f : FrameValue) (a : At t) → IsFrameOf o f → IsGivenTo layer.Life f → R a (close_given f a)
@@ -482,22 +496,50 @@ module _ {t : Types} (m : Meaning t) (o : OpenPacket) (R : At t → At t → Typ
       (λ e. closed_by_row (is_new_in a.state.numbers o.space o.number) (is_closed a.state.life.state) _ _ e)
       (λ h. still_open a.state.life.state lively (open_by_row (is_new_in a.state.numbers o.space o.number) (is_closed a.state.life.state) _ _ (verdict_of a.state o.space o.source o.token o.number) refl h))
 
--- so does what holds of each move that the packet makes
+-- so does what holds of the two by which recovery is given an ACK, and of each other move that the packet makes
 module _ {t : Types} (m : Meaning t) (o : OpenPacket) (R : At t → At t → Type 0) (here : (a : At t) → R a a) (next : (a b c : At t) → R a b → R b c → R a c)
-    (move : (x : Move t) (a : At t) → IsInPacket m o x a.state → MayMove x a.state → R a (move_to x a)) where
+    (move : (x : Move t) (a : At t) → IsInPacket m o x a.state → IsUnacked x → MayMove x a.state → R a (move_to x a))
+    (acked : (ack : AckValue) (a : At t) → IsFrameOf o (frames.Ack ack) → R a (given_ack m o ack a)) where
   read_by : (x : ℕ) (bytes : List ℕ) (a : At t) → x ∷ bytes ≡ ready_bytes (stream_of a.state.lower o.space) → R a (given_read m o x bytes a)
   unfolding MayMove move_to state_move lower_move
   read_by x bytes a ready =
       let read : Move t = Read o.space (length (x ∷ bytes)) (m.after_read a.state.lower.session (x ∷ bytes)) in
       let b : At t = move_to (Tell (did.Gave layer.Session (x ∷ bytes))) a in
-      next a b (move_to read b) (move (Tell (did.Gave layer.Session (x ∷ bytes))) a ready tt)
-      (move read b (record { space = refl; counted = ap (λ (l : List ℕ). length l) ready; behind = ap (λ (l : List ℕ). m.after_read a.state.lower.session l) ready }) tt)
+      next a b (move_to read b) (move (Tell (did.Gave layer.Session (x ∷ bytes))) a ready tt tt)
+      (move read b (record { space = refl; counted = ap (λ (l : List ℕ). length l) ready; behind = ap (λ (l : List ℕ). m.after_read a.state.lower.session l) ready }) tt tt)
+
+  beside : (x : Move t) (a : At t) → IsInPacket m o x a.state → IsBeside x → MayMove x a.state → R a (move_to x a)
+  beside x a h apart may = move x a h (beside_unacked x apart) may
+
+  pub payload_unacked : (a : At t) → R a (payload_after m o.coming o.space o.payload a)
+  payload_unacked a = payload_beside m o R here next beside read_by acked a
+
+  pub fixed_unacked : (a : At t) → R a (fixed_after o.space o.source a)
+  fixed_unacked a = fixed_beside m o R here next beside read_by acked a
+
+  pub packet_unacked : (a : At t) → is_over a.state.life.state ≡ false → R a (packet_received m o a)
+  packet_unacked a lively = packet_beside m o R here next beside read_by acked a lively
+
+-- and so does what holds of each move that the packet makes
+module _ {t : Types} (m : Meaning t) (o : OpenPacket) (R : At t → At t → Type 0) (here : (a : At t) → R a a) (next : (a b c : At t) → R a b → R b c → R a c)
+    (move : (x : Move t) (a : At t) → IsInPacket m o x a.state → MayMove x a.state → R a (move_to x a)) where
+  acked_by : (ack : AckValue) (a : At t) → IsFrameOf o (frames.Ack ack) → R a (given_ack m o ack a)
+  unfolding MayMove move_to
+  acked_by ack a h =
+      let d : Did = did.Gave layer.Recovery (spelling (frames.Ack ack)) in
+      let settle : Move t = Ack o.space ack.largest (settled_by m o.coming.time o.space ack a.state) in
+      let b : At t = move_to (Tell d) a in
+      next a b (move_to settle b) (move (Tell d) a (frames.Ack ack, h, tt, refl) tt)
+      (move settle b (record { ack = ack; among = h; space = refl; greatest = refl; settled = told_settled m o.coming.time o.space ack d a.state }) tt)
+
+  each : (x : Move t) (a : At t) → IsInPacket m o x a.state → IsUnacked x → MayMove x a.state → R a (move_to x a)
+  each x a h unacked may = move x a h may
 
   pub holds_payload : (a : At t) → R a (payload_after m o.coming o.space o.payload a)
-  holds_payload a = payload_beside m o R here next (λ x b h beside may. move x b h may) read_by a
+  holds_payload a = payload_unacked m o R here next each acked_by a
 
   pub holds_fixed : (a : At t) → R a (fixed_after o.space o.source a)
-  holds_fixed a = fixed_beside m o R here next (λ x b h beside may. move x b h may) read_by a
+  holds_fixed a = fixed_unacked m o R here next each acked_by a
 
   pub holds_packet : (a : At t) → is_over a.state.life.state ≡ false → R a (packet_received m o a)
-  holds_packet a lively = packet_beside m o R here next (λ x b h beside may. move x b h may) read_by a lively
+  holds_packet a lively = packet_unacked m o R here next each acked_by a lively
