@@ -379,7 +379,7 @@ module _ {t : Types} where
   -- a packet is taken and sealed: the steps of its DATAGRAM frames, with the deed that they were sealed
   packet_folds : (shrinks : Bool) (time : ℕ) (form : Form) (fs : List FrameValue) (a : At t) → IsSealable time a.state form fs →
       Folds shrinks a (move_to (Seal time form (next_number a.state.numbers (number_space form)) (packet_size a.state form fs) fs) (move_to (Take (number_space form) fs) a))
-  unfolding move_to state_move lower_move streams_stepped datagrams_stepped deeds_move life_move frames_sealed ids_stepped
+  unfolding move_to state_move lower_move streams_stepped datagrams_stepped deeds_move life_move frames_sealed ids_stepped after
   packet_folds shrinks time form fs a may =
       let b : At t = move_to (Take (number_space form) fs) a in
       let n : ℕ = next_number a.state.numbers (number_space form) in

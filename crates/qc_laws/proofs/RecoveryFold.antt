@@ -265,7 +265,7 @@ module _ {t : Types} where
   ack_fold : (m : Meaning t) (time : ℕ) (space : SpaceId) (ack : AckValue) (s : View t) →
       let after : After t.C = settled_by m time space ack s in
       IsFold m (did.Gave layer.Recovery (spelling (frames.Ack ack)) ∷ []) (Settled space ack after ∷ []) s (state_move (Ack space ack.largest after) s)
-  unfolding step_after state_move lower_move paths_move packets_settled streams_stepped ids_stepped path_kept
+  unfolding step_after state_move lower_move paths_move packets_settled streams_stepped datagrams_stepped ids_stepped path_kept
   ack_fold m time space ack s = record { may = (settled_may m time space ack s, tt); leads = refl; sent = λ id. refl }
 
   -- what a packet gives that isn't admitted

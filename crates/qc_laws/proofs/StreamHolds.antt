@@ -129,7 +129,7 @@ module _ {t : Types} (id : SpaceId) where
 
   -- recovery is given an ACK
   ack_within : (m : Meaning t) (o : OpenPacket) (now : Bool) (ack : AckValue) (a : At t) → Within now a (given_ack m o ack a)
-  unfolding lower_move deeds_move packets_settled streams_stepped stream_of ids_stepped
+  unfolding move_to lower_move deeds_move packets_settled streams_stepped datagrams_stepped stream_of ids_stepped
   ack_within m o now ack a =
       let d : Did = did.Gave layer.Recovery (spelling (frames.Ack ack)) in
       let b : At t = move_to (Tell d) a in
