@@ -191,7 +191,7 @@ pub fn received_in<U: Suite>(
                 core, alloc, did, coming, space, spin, source, number, payload,
             )
         }
-        Verdict::Ignored | Verdict::Failure | Verdict::BadBits => Ok(()),
+        Verdict::Ignored | Verdict::Failure | Verdict::BadBits | Verdict::BadUpdate => Ok(()),
     }
 }
 

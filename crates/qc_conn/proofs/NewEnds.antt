@@ -1,5 +1,5 @@
--- In a connection that was just made the life is open, no close is owed, and nothing waits to be told.
-use Rattle.std.proofs.Common.{◌≡◌, ℕ, ◌≤◌, ◌<◌, List, Bool, ap, sym, subst, arith}
+-- In a connection that was just made the life is open, no close is owed, nothing waits to be told, and no 1-RTT keys are there.
+use Rattle.std.proofs.Common.{◌≡◌, ℕ, ◌≤◌, ◌<◌, inr, List, Bool, ap, sym, subst, arith}
 use Rattle.std.specs.List.{list_all}
 use Rattle.rand_core.specs.Stream.{Stream}
 use Rattle.std.specs.declared.net.SocketAddr.{SocketAddr}
@@ -7,6 +7,7 @@ use Rattle.qc_recovery.specs.TransportValues.{TransportValues}
 use Rattle.qc_state.specs.declared.setup.Fixed.{Fixed}
 use Rattle.qc_laws.specs.EndLaws.{Ends}
 use Rattle.qc_laws.specs.EventLaws.{OnlyDoneWaits, ends_in, is_heard}
+use Rattle.qc_laws.specs.UpdateLaws.{AreLast}
 use Rattle.qc_state.specs.First.{first_view, server_view}
 use Rattle.qc_state.specs.Types.{Types, Meaning}
 use Rattle.qc_state.specs.View.{Held, View, ideal}
@@ -48,3 +49,16 @@ module _ {t : Types} {R : Type 0} where
   unfolding server_view
   server_told stream m session words fixed remote remote_cid validated transport congestion time v made =
       record { lost = λ _. ap (λ (v : View t). v.life.lost) made; connected = λ _. ap (λ (v : View t). v.life.connected) made; drained = λ _. ap (λ (v : View t). v.life.drained) made; notices = ap (λ (v : View t). ends_in v.life.notices) made; heard = ap (λ (v : View t). list_all is_heard v.life.heard) made }
+
+module _ {t : Types} {R : Type 0} where
+  -- a client that was just made has no 1-RTT keys
+  pub first_last : (stream : R → Stream) (m : Meaning t) (session : t.S) (words : Stream) (fixed : Fixed) (remote : SocketAddr) (first_cid token : List ℕ) (transport : TransportValues) (congestion : t.C) (time : ℕ) (v : Held t R) → ideal stream v ≡ first_view m session words fixed remote first_cid token transport congestion time
+      → AreLast (ideal stream v)
+  unfolding first_view
+  first_last stream m session words fixed remote first_cid token transport congestion time v made = inr (ap (λ (s : View t). s.keys.«data») made)
+
+  -- nor has such a server
+  pub server_last : (stream : R → Stream) (m : Meaning t) (session : t.S) (words : Stream) (fixed : Fixed) (remote : SocketAddr) (remote_cid : List ℕ) (validated : Bool) (transport : TransportValues) (congestion : t.C) (time : ℕ) (v : Held t R) → ideal stream v ≡ server_view m session words fixed remote remote_cid validated transport congestion time
+      → AreLast (ideal stream v)
+  unfolding server_view
+  server_last stream m session words fixed remote remote_cid validated transport congestion time v made = inr (ap (λ (s : View t). s.keys.«data») made)

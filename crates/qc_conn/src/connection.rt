@@ -24,6 +24,7 @@ ghost use Rattle.qc_conn.specs.Refusal.{bad_call};
 ghost use Rattle.qc_state.specs.Run.{began, time_of, close_after, IsStep};
 ghost use Rattle.qc_state.specs.Timeouts.{timeout_after};
 ghost use Rattle.qc_laws.specs.CidLaws.{HasNewIds};
+ghost use Rattle.qc_laws.specs.UpdateLaws.{AreLast};
 ghost use Rattle.qc_laws.specs.IdLaws.{CarriesUsed};
 ghost use Rattle.qc_laws.specs.PostLaws.{HasNewDatagrams};
 ghost use Rattle.qc_laws.specs.ReadLaws.{HasNewStreams};
@@ -111,6 +112,7 @@ impl<U: Suite> Connection<U> {
         ensures plain { IsPlainAddress setup.remote → IfOk result (λ c. IsPlainStart c.core.waiting c.core.paths c.core.life) }
         ensures told { IfOk result (λ c. OnlyDoneWaits c.core.life) }
         ensures ends { IfOk result (λ c. Ends (ideal U.Random.stream c.core)) }
+        ensures last { IfOk result (λ c. AreLast (ideal U.Random.stream c.core)) }
         ensures crypto { IfOk result (λ c. (id : SpaceId) → CryptoKept id [] (ideal U.Random.stream c.core)) }
         ensures timer { IfOk result (λ c. TimerHolds false (ideal U.Random.stream c.core)) }
         ensures held { IfOk result (λ c. AckHolds (ideal U.Random.stream c.core)) }
@@ -143,6 +145,7 @@ impl<U: Suite> Connection<U> {
         ensures plain { IsPlainAddress setup.remote → IfOk result (λ c. IsPlainStart c.core.waiting c.core.paths c.core.life) }
         ensures told { IfOk result (λ c. OnlyDoneWaits c.core.life) }
         ensures ends { IfOk result (λ c. Ends (ideal U.Random.stream c.core)) }
+        ensures last { IfOk result (λ c. AreLast (ideal U.Random.stream c.core)) }
         ensures crypto { IfOk result (λ c. (id : SpaceId) → CryptoKept id [] (ideal U.Random.stream c.core)) }
         ensures timer { IfOk result (λ c. TimerHolds false (ideal U.Random.stream c.core)) }
         ensures held { IfOk result (λ c. AckHolds (ideal U.Random.stream c.core)) }
@@ -306,12 +309,12 @@ impl<U: Suite> Connection<U> {
 
     /// Timers may have come by `now`: each that has, to that time or an earlier one, does what it is for, in this order. The loss
     /// timer: packets are lost, whose frames wait again, or probes are due (RFC 9002, 6.1.2 and 6.2.4); it is set anew. The idle
-    /// timer: the connection ends at once, for `TimedOut`. The close timer: the connection, which closed before, ends. The pacing
-    /// timer: a datagram that the pacer held back may go, by a transmit. The timer of this end's ids: the peer is asked to retire
-    /// those that have grown old, and others are wanted in their place (RFC 9000, 5.1.1). The timer of an ACK that was held back: it
-    /// is owed at last (RFC 9000, 13.2.1). Afterwards none of these five is left that has come; the loss timer may stand at a time
-    /// that has come again, as a probe timeout counts from the last packet that was sent. In a connection that had ended nothing
-    /// happens.
+    /// timer: the connection ends at once, for `TimedOut`. The close timer: the connection, which closed before, ends. The timer of
+    /// old keys: 1-RTT keys of the epoch before are dropped (RFC 9001, 6.5). The pacing timer: a datagram that the pacer held back
+    /// may go, by a transmit. The timer of this end's ids: the peer is asked to retire those that have grown old, and others are
+    /// wanted in their place (RFC 9000, 5.1.1). The timer of an ACK that was held back: it is owed at last (RFC 9000, 13.2.1).
+    /// Afterwards none of these six is left that has come; the loss timer may stand at a time that has come again, as a probe
+    /// timeout counts from the last packet that was sent. In a connection that had ended nothing happens.
     ///
     /// # Errors
     ///
@@ -321,6 +324,7 @@ impl<U: Suite> Connection<U> {
         ensures leads { OnOk result ((ideal U.Random.stream self.new.core) ≡ (timeout_after ⟦<U as Means>⟧.meaning now (began (ideal U.Random.stream self.old.core) now)).state) }
         ensures idle { OnOk result (is_drained self.old.core.life.state ≡ false → has_come self.new.core.timers.idle now ≡ false) }
         ensures close { OnOk result (is_drained self.old.core.life.state ≡ false → has_come self.new.core.timers.close now ≡ false) }
+        ensures keys { OnOk result (is_drained self.old.core.life.state ≡ false → has_come self.new.core.timers.key_discard now ≡ false) }
         ensures paced { OnOk result (is_drained self.old.core.life.state ≡ false → has_come self.new.core.timers.pacing now ≡ false) }
         ensures aged { OnOk result (is_drained self.old.core.life.state ≡ false → has_come self.new.core.timers.push_new_cid now ≡ false) }
         ensures held { OnOk result (is_drained self.old.core.life.state ≡ false → has_come self.new.core.timers.max_ack_delay now ≡ false) }

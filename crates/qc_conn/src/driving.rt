@@ -8,6 +8,7 @@ ghost use Rattle.qc_conn.specs.Seen.{KeepsCredit, counted};
 ghost use Rattle.qc_base.specs.declared.side.SpaceId.{SpaceId};
 ghost use Rattle.qc_laws.specs.AckLaws.{AckHolds, EachHoldsAck};
 ghost use Rattle.qc_laws.specs.AckedLaws.{AcksFrames};
+ghost use Rattle.qc_laws.specs.BytesLaws.{KeepsWritten};
 ghost use Rattle.qc_laws.specs.CidLaws.{HasNewIds, KeepsLength, TellsIssued, UsesPeers};
 ghost use Rattle.qc_laws.specs.CryptoLaws.{KeepsBytes};
 ghost use Rattle.qc_laws.specs.EndLaws.{Ends};
@@ -29,6 +30,7 @@ ghost use Rattle.qc_state.specs.Run.{time_of, Adds, Run, Ran};
 ghost use Rattle.qc_laws.specs.StreamLaws.{GivesStream};
 ghost use Rattle.qc_laws.specs.StreamsLaws.{FoldsStreams};
 ghost use Rattle.qc_laws.specs.TimerLaws.{KeepsTimer};
+ghost use Rattle.qc_laws.specs.UpdateLaws.{AreLast, FoldsKeys, KeepsEpochs};
 ghost use Rattle.qc_state.specs.View.{ideal};
 
 use crate::connection::Connection;
@@ -327,6 +329,13 @@ pub fn drive<U: Suite, G: TokenStore>(
     ensures timer { Ends (ideal U.Random.stream connection.old.core) → IfOk result (λ trace. KeepsTimer (deeds_of trace) (ideal U.Random.stream connection.old.core) (ideal U.Random.stream connection.new.core)) }
     ensures settles { Ends (ideal U.Random.stream connection.old.core) → IfOk result (λ trace. EachSettlesOnce (deeds_of trace) (ideal U.Random.stream connection.old.core) (ideal U.Random.stream connection.new.core)) }
 
+    // The 1-RTT keys are what their own steps leave, each of which may be made: those of the packets that were sealed, of those that were
+    // opened, and of the ACKs that came, in order, none left out and none made up. So their epoch never falls, and packets are sealed under
+    // keys of epochs that never do.
+    ensures updates { AreLast (ideal U.Random.stream connection.old.core) → IfOk result (λ trace. FoldsKeys trace (ideal U.Random.stream connection.old.core) (ideal U.Random.stream connection.new.core)) }
+    ensures epochs { AreLast (ideal U.Random.stream connection.old.core) → IfOk result (λ trace. KeepsEpochs trace (ideal U.Random.stream connection.old.core) (ideal U.Random.stream connection.new.core)) }
+    ensures last { AreLast (ideal U.Random.stream connection.old.core) → OnOk result (AreLast (ideal U.Random.stream connection.new.core)) }
+
     // The session is given the bytes of each space's CRYPTO stream in order, each once: from a new connection on the front of what came.
     ensures streams { (id : SpaceId) → IfOk result (λ trace. GivesStream id (deeds_of trace) (ideal U.Random.stream connection.old.core) (ideal U.Random.stream connection.new.core)) }
 
@@ -343,6 +352,10 @@ pub fn drive<U: Suite, G: TokenStore>(
     ensures reads { HasNewStreams (ideal U.Random.stream connection.old.core) → IfOk result (λ trace. ReadsTrace inputs.now trace) }
     ensures written { HasNewStreams (ideal U.Random.stream connection.old.core) → IfOk result (λ trace. SealsWritten inputs.now trace) }
     ensures credit { OnOk result (KeepsCredit connection.old.core.lower.streams connection.new.core.lower.streams) }
+
+    // And each byte that was written on one, which wasn't reset, waits to be sealed, is in flight or was acknowledged, while the connection is
+    // open.
+    ensures bytes { Ends (ideal U.Random.stream connection.old.core) → HasNewStreams (ideal U.Random.stream connection.old.core) → IfOk result (λ trace. KeepsWritten ⟦<U as Means>⟧.meaning inputs.now trace (ideal U.Random.stream connection.old.core) (ideal U.Random.stream connection.new.core)) }
 
     // So are its datagrams what their own steps leave, those of the frames that came and were sealed and of the inputs that send or take one,
     // which answer so; and where they were new, those that are taken are some of those that came, and those that are sealed some of those
@@ -365,7 +378,8 @@ pub fn drive<U: Suite, G: TokenStore>(
     // are told as sealed, in their order, under the keys of the epochs that are told.
     ensures datagrams { IfOk result (λ trace. EachSealsAnswer ⟦<U as Means>⟧.meaning 0 (ideal U.Random.stream connection.old.core) inputs.now trace (ideal U.Random.stream connection.new.core)) }
 
-    // An ACK of 1-RTT packets is held back for 25 ms at most, or until an ACK is sealed.
+    // An ACK of 1-RTT packets is asked for just behind an accepted one whose payload elicits it, until one is sealed. It is owed then until one
+    // is sealed, or held back for 25 ms at most, or until an ACK is sealed in any space.
     ensures held { AckHolds (ideal U.Random.stream connection.old.core) → IfOk result (λ trace. EachHoldsAck ⟦<U as Means>⟧.meaning 0 (ideal U.Random.stream connection.old.core) inputs.now trace (ideal U.Random.stream connection.new.core)) }
     ensures held_end { AckHolds (ideal U.Random.stream connection.old.core) → OnOk result (AckHolds (ideal U.Random.stream connection.new.core)) }
 

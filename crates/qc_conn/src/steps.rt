@@ -158,6 +158,7 @@ pub(crate) fn core_timeout<U: Suite>(
     ensures leads { OnOk result ((ideal U.Random.stream core.new) ≡ (timeout_after ⟦<U as Means>⟧.meaning now (began (ideal U.Random.stream core.old) now)).state) }
     ensures idle { OnOk result (is_drained core.old.life.state ≡ false → has_come core.new.timers.idle now ≡ false) }
     ensures close { OnOk result (is_drained core.old.life.state ≡ false → has_come core.new.timers.close now ≡ false) }
+    ensures keys { OnOk result (is_drained core.old.life.state ≡ false → has_come core.new.timers.key_discard now ≡ false) }
     ensures paced { OnOk result (is_drained core.old.life.state ≡ false → has_come core.new.timers.pacing now ≡ false) }
     ensures aged { OnOk result (is_drained core.old.life.state ≡ false → has_come core.new.timers.push_new_cid now ≡ false) }
     ensures held { OnOk result (is_drained core.old.life.state ≡ false → has_come core.new.timers.max_ack_delay now ≡ false) }

@@ -19,6 +19,7 @@ use Rattle.qc_state.specs.declared.deeds.Layer.TheVariants as layer
 use Rattle.qc_state.specs.declared.lower.Lower.{Lower}
 use Rattle.qc_state.specs.declared.numbers.Numbers.{Numbers}
 use Rattle.qc_state.specs.declared.waiting.Waiting.{Waiting}
+use Rattle.qc_state.specs.declared.keys.KeyGroup.{KeyGroup}
 use Rattle.qc_cids.specs.Steps as ids
 use Rattle.qc_cids.specs.declared.connection_ids.ConnectionIds.{ConnectionIds}
 use Rattle.qc_datagrams.specs.Steps as datagrams
@@ -39,6 +40,7 @@ use Rattle.qc_streams.specs.declared.state.StreamsState.{StreamsState}
 use Rattle.qc_state.specs.Types.{Types, Meaning}
 use Rattle.qc_state.specs.View.{View, Held, At, at, ideal}
 use Rattle.qc_state.specs.Waiting.{fired_in, packets_acked, packets_lost}
+use Rattle.qc_state.specs.Keys.{key_acked}
 
 module _ {t : Types} (m : Meaning t) where
   -- what loss recovery makes of an ACK, which is told of the connection as it stands
@@ -89,17 +91,17 @@ module _ {t : Types} {R : Type 0} (m : Meaning t) (stream : R → Stream) where
       ∙ ap (λ (k : PathData t.C). datagrams.after (shrunk_by v.paths.current.kept.mtud.current (record v.paths.current { kept = k }) v.setup.peer) l.datagrams) is_kept
 
   -- the groups that change are those of the move
-  pub settled_parts : (r : Result Bool AllocError) (v w : Held t R) (time : ℕ) (id : SpaceId) (ack : AckValue) (after : After t.C) (numbers : Numbers) (waiting : Waiting) (lower : Lower t.S) (x : StreamsState) (z : ConnectionIds) (d : Datagrams) (before : ℕ) (kept : PathData t.C) → w ≡ v →
+  pub settled_parts : (r : Result Bool AllocError) (v w : Held t R) (time : ℕ) (id : SpaceId) (ack : AckValue) (after : After t.C) (numbers : Numbers) (keys : KeyGroup t.H t.P) (waiting : Waiting) (lower : Lower t.S) (x : StreamsState) (z : ConnectionIds) (d : Datagrams) (before : ℕ) (kept : PathData t.C) → w ≡ v →
       after ≡ settled_by m time id ack (ideal stream v) → kept ≡ after.path → lower ≡ packets_settled w.lower after → x ≡ streams.after (acked_steps after.acked ++ lost_steps after.lost) lower.streams → z ≡ ids.after (lost_ids after.lost) lower.ids →
-      before ≡ w.paths.current.kept.mtud.current → d ≡ datagrams.after (shrunk_by before (record w.paths.current { kept = kept }) w.setup.peer) lower.datagrams → numbers ≡ number_acked w.numbers id ack.largest → OnOk r (waiting ≡ packets_lost (packets_acked w.waiting id after.acked) id after.lost) →
-      OnOk r (ideal stream (record w { numbers = numbers; paths = record w.paths { current = record w.paths.current { kept = kept } }; waiting = waiting; lower = record lower { streams = x; ids = z; datagrams = d } }) ≡ state_move (Ack id ack.largest (settled_by m time id ack (ideal stream v))) (ideal stream v))
+      before ≡ w.paths.current.kept.mtud.current → d ≡ datagrams.after (shrunk_by before (record w.paths.current { kept = kept }) w.setup.peer) lower.datagrams → keys ≡ key_acked w.keys id ack.largest → numbers ≡ number_acked w.numbers id ack.largest → OnOk r (waiting ≡ packets_lost (packets_acked w.waiting id after.acked) id after.lost) →
+      OnOk r (ideal stream (record w { numbers = numbers; keys = keys; paths = record w.paths { current = record w.paths.current { kept = kept } }; waiting = waiting; lower = record lower { streams = x; ids = z; datagrams = d } }) ≡ state_move (Ack id ack.largest (settled_by m time id ack (ideal stream v))) (ideal stream v))
   unfolding state_move numbers_move keys_move life_move paths_move timers_move waiting_move setup_move lower_move path_kept ideal_setup
-  settled_parts (Ok newly) v w time id ack after numbers waiting lower x z d before kept same is is_kept is_lower is_streams is_ids was is_datagrams is_numbers is_waiting =
+  settled_parts (Ok newly) v w time id ack after numbers keys waiting lower x z d before kept same is is_kept is_lower is_streams is_ids was is_datagrams is_keys is_numbers is_waiting =
       let below = stepped lower (packets_settled w.lower after) x (acked_steps after.acked ++ lost_steps after.lost) z (lost_ids after.lost) d (shrunk_steps after.path (ideal stream w)) is_lower is_streams is_ids (shrinks w before kept after.path lower d was is_kept is_datagrams) in
-      subst (λ (y : Held t R). ideal stream (record w { numbers = numbers; paths = record w.paths { current = record w.paths.current { kept = kept } }; waiting = waiting; lower = record lower { streams = x; ids = z; datagrams = d } }) ≡ state_move (Ack id ack.largest after) (ideal stream y)) same
+      subst (λ (y : Held t R). ideal stream (record w { numbers = numbers; keys = keys; paths = record w.paths { current = record w.paths.current { kept = kept } }; waiting = waiting; lower = record lower { streams = x; ids = z; datagrams = d } }) ≡ state_move (Ack id ack.largest after) (ideal stream y)) same
       (λ i. record {
         numbers = is_numbers i;
-        keys = w.keys;
+        keys = is_keys i;
         life = w.life;
         paths = record w.paths { current = record w.paths.current { kept = is_kept i } };
         timers = w.timers;
@@ -108,7 +110,7 @@ module _ {t : Types} {R : Type 0} (m : Meaning t) (stream : R → Stream) where
         lower = below i;
       })
       ∙ ap (λ (x : After t.C). state_move (Ack id ack.largest x) (ideal stream v)) is
-  settled_parts (Err e) v w time id ack after numbers waiting lower x z d before kept same is is_kept is_lower is_streams is_ids was is_datagrams is_numbers is_waiting = tt
+  settled_parts (Err e) v w time id ack after numbers keys waiting lower x z d before kept same is is_kept is_lower is_streams is_ids was is_datagrams is_keys is_numbers is_waiting = tt
 
   pub fired_parts : (r : Result (Unit {0}) AllocError) (v w : Held t R) (time : ℕ) (after : FiredAfter t.C) (waiting : Waiting) (lower : Lower t.S) (x : StreamsState) (z : ConnectionIds) (d : Datagrams) (before : ℕ) (kept : PathData t.C) → w ≡ v →
       after ≡ fired_by m time (ideal stream v) → kept ≡ after.path → lower ≡ timer_fired w.lower after → x ≡ streams.after (fired_steps after.fired) lower.streams → z ≡ ids.after (fired_ids after.fired) lower.ids →

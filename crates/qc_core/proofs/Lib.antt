@@ -8,3 +8,4 @@ pub mod DatagramCalls
 pub mod TakenAcks
 pub mod TakenPings
 pub mod GivenReasons
+pub mod Unseals

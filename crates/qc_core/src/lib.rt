@@ -1,4 +1,4 @@
-//! The core of a connection: its state, the moves that it makes, how it stops, its calls and its timers.
+//! The core of a connection: its state, the moves that it makes, how it stops, its calls, its timers and its key updates.
 #![tactic(auto)]
 
 mod calls;
@@ -14,5 +14,6 @@ pub mod state;
 pub mod stopping;
 mod streams;
 mod timeouts;
+mod updating;
 
 pub use state::Core;

@@ -337,6 +337,7 @@ impl<U: Suite> Core<U> {
             &self.paths.current,
             &self.setup.peer,
         );
+        self.keys.acked(space, ack.largest);
         settle_in(
             &mut self.numbers,
             &mut self.waiting,

@@ -2,7 +2,7 @@
 
 ghost use Rattle.std.specs.Prelude.{◌≡◌, ◌∷◌, [], true, false, Option, None, ◌||◌, ◌&&◌, if◌then◌else◌, OnOk, ◌+◌, ◌-◌, ◌<◌, ◌≤◌, ◌^◌, ◌++◌, is_none};
 ghost use Rattle.qc_state.specs.Life.{reason_given};
-ghost use Rattle.qc_state.specs.Stopping.{stopped_after, violation_at, given_after, key_limit_error, killed_after};
+ghost use Rattle.qc_state.specs.Stopping.{stopped_after, violation_at, given_after, key_limit_error, killed_after, update_error};
 ghost use Rattle.qc_state.specs.View.{ideal, held};
 ghost use Rattle.qc_state.specs.Moves.{move_to};
 ghost use Rattle.qc_base.specs.declared.side.SpaceId.TheVariants.{Initial};
@@ -28,6 +28,16 @@ pub fn key_limit_error() -> TransportError
 {
     TransportError {
         code: TransportErrorCode::AEAD_LIMIT_REACHED,
+        frame: None,
+    }
+}
+
+/// The error of a key update that the peer wasn't allowed to make (RFC 9001, sections 6.2 and 6.4).
+pub fn update_error() -> TransportError
+    ensures { result ≡ update_error }
+{
+    TransportError {
+        code: TransportErrorCode::KEY_UPDATE_ERROR,
         frame: None,
     }
 }

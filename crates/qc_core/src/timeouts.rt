@@ -1,8 +1,8 @@
-//! What timers do that have come (RFC 9000, 5.1.2, 10.1, 10.2 and 13.2.1; RFC 9002, 6.2).
+//! What timers do that have come (RFC 9000, 5.1.2, 10.1, 10.2 and 13.2.1; RFC 9001, 6.5; RFC 9002, 6.2).
 
 ghost use Rattle.std.specs.Prelude.{◌≡◌, false, OnOk};
 ghost use Rattle.qc_state.specs.Life.{is_drained};
-ghost use Rattle.qc_state.specs.Timeouts.{loss_expired, idle_expired, close_expired, pacing_expired, ids_expired, ack_expired, timeout_after};
+ghost use Rattle.qc_state.specs.Timeouts.{loss_expired, idle_expired, close_expired, keys_expired, pacing_expired, ids_expired, ack_expired, timeout_after};
 ghost use Rattle.qc_state.specs.Timers.{has_come};
 ghost use Rattle.qc_state.specs.View.{held};
 
@@ -48,6 +48,16 @@ impl<U: Suite> Core<U> {
         Ok(())
     }
 
+    /// The 1-RTT keys of the epoch before were kept for long enough: they are dropped.
+    #[tactic(auto, unfolding(qc_state::specs::Timeouts::keys_expired, qc_state::specs::Moves::move_to, qc_state::specs::Moves::deeds_move))]
+    fn expire_keys(&mut self, now: Instant, did: &Dids)
+        ensures { (held U.Random.stream self.new did.now) ≡ keys_expired now (held U.Random.stream self.old did.now) }
+    {
+        if has_come(self.timers.key_discard, now) {
+            self.do_discard();
+        }
+    }
+
     /// The pacer held a datagram back for long enough: it may go, by a transmit.
     #[tactic(auto, unfolding(qc_state::specs::Timeouts::pacing_expired, qc_state::specs::Moves::move_to, qc_state::specs::Moves::deeds_move))]
     fn expire_pacing(&mut self, now: Instant, did: &Dids)
@@ -84,11 +94,12 @@ impl<U: Suite> Core<U> {
 
     /// Each timer that has come does what it is for, one after the other. Want of memory is the only refusal.
     fn expire(&mut self, now: Instant, did: &mut Dids) -> Result<(), AllocError>
-        ensures { OnOk result ((held U.Random.stream self.new did.new) ≡ ack_expired now (ids_expired now (pacing_expired now (close_expired now (idle_expired now (loss_expired ⟦<U as Means>⟧.meaning now (held U.Random.stream self.old did.old))))))) }
+        ensures { OnOk result ((held U.Random.stream self.new did.new) ≡ ack_expired now (ids_expired now (pacing_expired now (keys_expired now (close_expired now (idle_expired now (loss_expired ⟦<U as Means>⟧.meaning now (held U.Random.stream self.old did.old)))))))) }
     {
         self.expire_loss(now, did)?;
         self.expire_idle(now, did)?;
         self.expire_close(now, did)?;
+        self.expire_keys(now, did);
         self.expire_pacing(now, did);
         self.expire_ids(now, did)?;
         self.expire_ack(now, did);
@@ -97,8 +108,8 @@ impl<U: Suite> Core<U> {
 
     /// Timers may have come by `now`: each that has, to that time or an earlier one, does what it is for, in this order. The loss
     /// timer: packets are lost, or probes are due, and it is set anew, perhaps to a time that has come. The idle timer: the
-    /// connection ends for `TimedOut`. The close timer: the connection, which closed before, ends. The pacing timer: a datagram that
-    /// was held back may go, by a transmit. The timer of this end's ids: the peer is asked to retire those that have grown old, and others
+    /// connection ends for `TimedOut`. The close timer: the connection, which closed before, ends. The timer of old keys: 1-RTT
+    /// keys of the epoch before are dropped. The pacing timer: a datagram that was held back may go, by a transmit. The timer of this end's ids: the peer is asked to retire those that have grown old, and others
     /// are wanted. The timer of an ACK that was held back: it is owed. Afterwards none of these is left that has come, but for the first. In a connection that has ended nothing happens.
     ///
     /// # Errors
@@ -109,6 +120,7 @@ impl<U: Suite> Core<U> {
         ensures leads { OnOk result ((held U.Random.stream self.new did.new) ≡ timeout_after ⟦<U as Means>⟧.meaning now (held U.Random.stream self.old did.old)) }
         ensures idle { OnOk result (is_drained self.old.life.state ≡ false → has_come self.new.timers.idle now ≡ false) }
         ensures close { OnOk result (is_drained self.old.life.state ≡ false → has_come self.new.timers.close now ≡ false) }
+        ensures keys { OnOk result (is_drained self.old.life.state ≡ false → has_come self.new.timers.key_discard now ≡ false) }
         ensures paced { OnOk result (is_drained self.old.life.state ≡ false → has_come self.new.timers.pacing now ≡ false) }
         ensures ids { OnOk result (is_drained self.old.life.state ≡ false → has_come self.new.timers.push_new_cid now ≡ false) }
         ensures ack { OnOk result (is_drained self.old.life.state ≡ false → has_come self.new.timers.max_ack_delay now ≡ false) }

@@ -1,6 +1,6 @@
 -- Over a run an ACK is held back for at most 25 ms, unless an ACK is sealed before.
 use Rattle.std.proofs.Common.{◌≡◌, ℕ, ◌+◌, ◌<◌, ◌≤◌, ◌⊎◌, inl, inr, List, [], ◌∷◌, ◌++◌, length, refl, ap, sym, ◌∙◌, subst, Bool, true, false, Option, Some, None, if◌then◌else◌, append_assoc, append-nil, arith}
-use Rattle.std.specs.Prelude.{◌-◌, ◌==◌, ◌||◌, not, is_some}
+use Rattle.std.specs.Prelude.{◌==◌, ◌||◌, not, is_some}
 use Rattle.std.specs.List.{list_any}
 use Rattle.qc_base.specs.Time.{plus}
 use Rattle.qc_base.specs.declared.side.SpaceId.{SpaceId}
@@ -28,35 +28,35 @@ use Rattle.qc_state.specs.declared.waiting.Waiting.{Waiting}
 use Rattle.qc_laws.specs.AckLaws.{AckHolds, EachHoldsAck, HoldsAck, is_owed_or_clear, marks_of, seals_ack}
 use Rattle.qc_state.specs.Acks.{is_ack}
 use Rattle.qc_state.specs.Forms.{is_early, number_space}
-use Rattle.qc_state.specs.Keys.{epoch_in}
+use Rattle.qc_state.specs.Keys.{epoch_in, ring_of, sets_floor}
 use Rattle.qc_state.specs.Life.{connected_reported, drained_reported, is_drained, is_open, is_over, life_closed, life_drained, life_raised, lost_reported, notices_reported, ready_reported, all_heard_reported}
-use Rattle.qc_state.specs.Moves.{Accept, Ack, Arm, Ask, Begin, Confirm, Establish, Fire, Forget, Give, MayMove, Move, Owe, Pace, PeerCloses, Raise, Release, Seal, Shut, Take, Tell, Write, arrival_of, armed_after, armed_with, deeds_move, keys_move, life_move, move_to, state_move, timers_move, waiting_move, Call, Post, Issue, Outlive, Want}
+use Rattle.qc_state.specs.Moves.{Accept, Ack, Arm, Ask, Establish, Fire, Forget, Give, MayMove, Move, Pace, PeerCloses, Raise, Release, Seal, Shut, Take, Tell, Write, arrival_of, armed_after, armed_with, deeds_move, keys_move, life_move, move_to, state_move, timers_move, waiting_move, Call, Post, Issue, Outlive, Want, Unseal, Discard}
 use Rattle.qc_state.specs.Numbers.{came_in, next_number}
-use Rattle.qc_state.specs.Offers.{packet_begun}
 use Rattle.qc_state.specs.Paths.{is_blocked}
 use Rattle.qc_state.specs.Receiving.{datagram_after}
-use Rattle.qc_state.specs.Recovering.{fired_by, loss_time}
+use Rattle.qc_state.specs.Recovering.{fired_by, loss_time, probe_timeout_now}
 use Rattle.qc_state.specs.Run.{IsAllowed, IsStep, Run, began, called, close_after, input_after, reported, step_after, time_of, datagram_limit}
 use Rattle.qc_state.specs.Sending.{Choice, MayTransmit, packet_size, transmit_after}
 use Rattle.qc_state.specs.Spaces.{space_of}
 use Rattle.qc_state.specs.Stopping.{killed_after}
-use Rattle.qc_state.specs.Timeouts.{ack_expired, close_expired, idle_expired, loss_expired, pacing_expired, timeout_after, ids_expired, wanted_anew}
-use Rattle.qc_state.specs.Timers.{ack_delay_most, clock_set, has_come, timers_accepted, timers_armed, timers_closing, timers_held, timers_paced, timers_released, timers_stopped, timers_issued, timers_outlived}
+use Rattle.qc_state.specs.Timeouts.{ack_expired, close_expired, idle_expired, loss_expired, pacing_expired, timeout_after, ids_expired, wanted_anew, keys_expired}
+use Rattle.qc_state.specs.Timers.{ack_delay_most, clock_set, has_come, timers_accepted, timers_armed, timers_closing, timers_held, timers_paced, timers_released, timers_stopped, timers_issued, timers_outlived, timers_keeping, timers_discarded}
 use Rattle.qc_state.specs.Types.{Types, Meaning}
 use Rattle.qc_state.specs.View.{View, At}
-use Rattle.qc_state.specs.Waiting.{ack_released, bundle_next, close_begun, crypto_written, done_asked, frames_again, holds_back, nothing_left, packet_came, packet_told, ping_asked, probe_spent, released, space_left, waiting_without}
+use Rattle.qc_state.specs.Waiting.{ack_released, holds_back, packet_came}
 use Rattle.qc_state.specs.Waiting as waiting
-use Rattle.qc_laws.proofs.AckMarks.{IsTaken, acking_timer, all_again_acks, before, came_by, data_marks, elsewhere_timer, fired_marks, held_before, holding_timer, later, or_false, put_marks, received_asked, received_delay, sealed_marks, settled_marks}
+use Rattle.qc_laws.proofs.AckMarks.{IsTaken, KeepsMarks, acking_timer, before, came_by, data_marks, elsewhere_timer, held_before, holding_timer, kept_marks, later, or_false, received_asked, received_delay, sealed_marks}
+use Rattle.qc_laws.proofs.AcksAsked.{asks_step, owes_step}
 use Rattle.qc_state.proofs.Ends.{given_by}
 use Rattle.qc_laws.proofs.KnownMoves.{packet_known}
 use Rattle.qc_state.proofs.OpenPackets.{holds_packet, packet_received}
 use Rattle.qc_state.proofs.PacketMoves.{IsInPacket, OpenPacket}
-use Rattle.qc_state.proofs.Probed.{begun_holds}
 use Rattle.qc_state.proofs.ReceivedMoves.{IsOutside}
 use Rattle.qc_laws.proofs.Receives.{datagram_holds}
 use Rattle.qc_state.proofs.Telling.{told_appends}
 use Rattle.qc_laws.proofs.TimerMoves.{IsPlain, plain_open}
 use Rattle.qc_state.proofs.Transmitted.{IsSending, holds_transmit}
+use Rattle.qc_state.proofs.KeySteps.{keeping_same}
 use Rattle.qc_laws.proofs.StreamCalls.{called_input}
 use Rattle.qc_datagrams.specs.Steps as datagrams
 use Rattle.qc_cids.specs.Cids.{asks_anew}
@@ -129,35 +129,19 @@ module _ {t : Types} where
   calm_open m (Write bytes keys session) s k o = o
   calm_open m x s k o = plain_open m x s k o
 
-  begun_marks : (space : SpaceId) (opens : Bool) (s : View t) → data_marks (packet_begun space opens s).waiting.spaces ≡ data_marks s.waiting.spaces
-  unfolding probe_spent frames_again ping_asked
-  begun_marks space opens s =
-      begun_holds (λ (v : Waiting). data_marks v.spaces ≡ data_marks s.waiting.spaces)
-      (λ w other h. put_marks other w.spaces (record (space_of w.spaces other) { probes = (space_of w.spaces other).probes - 1 }) refl ∙ h)
-      (λ w other fs h. put_marks other w.spaces (waiting.all_again (space_of w.spaces other) fs) (ap (λ p. p.marks) (all_again_acks (space_of w.spaces other) fs)) ∙ h)
-      (λ w other h. put_marks other w.spaces (record (space_of w.spaces other) { ping = true }) refl ∙ h)
-      space opens s refl
+  calm_keeps : (m : Meaning t) (x : Move t) (s : View t) → IsCalm m x s → KeepsMarks x
+  calm_keeps m (Take id fs) s k = absurd k
+  calm_keeps m (Accept time id n e g v) s k = absurd k
+  calm_keeps m Release s k = absurd k
+  calm_keeps m (Seal time form n size fs) s k = absurd k
+  calm_keeps m _ s k = tt
 
   calm_marks : (m : Meaning t) (x : Move t) (s : View t) → IsCalm m x s → data_marks (waiting_move x s).spaces ≡ marks_of s
-  unfolding waiting_move ping_asked space_left nothing_left crypto_written done_asked close_begun
-  calm_marks m (Take id fs) s k = absurd k
-  calm_marks m (Accept time id n e g v) s k = absurd k
-  calm_marks m Release s k = absurd k
-  calm_marks m (Seal time form n size fs) s k = absurd k
-  calm_marks m (Ask space) s k = put_marks space s.waiting.spaces (record (space_of s.waiting.spaces space) { ping = true }) refl
-  calm_marks m (Forget space) s k = put_marks space s.waiting.spaces (nothing_left (space_of s.waiting.spaces space)) refl
-  calm_marks m (Ack space n after) s k = settled_marks s.waiting space after.acked after.lost
-  calm_marks m (Fire after) s k = fired_marks s.waiting after.fired
-  calm_marks m (Begin space opens) s k = begun_marks space opens s
-  calm_marks m (Write bytes keys session) s k = put_marks s.keys.highest s.waiting.spaces (record (space_of s.waiting.spaces s.keys.highest) { crypto = waiting.crypto_more (space_of s.waiting.spaces s.keys.highest).crypto bytes }) refl
-  calm_marks m Confirm s k = put_marks «Data» s.waiting.spaces (record (space_of s.waiting.spaces «Data») { done = true }) refl
-  calm_marks m Owe s k = refl
-  calm_marks m (Shut time close) s k = refl
-  calm_marks m _ s k = refl
+  calm_marks m x s k = kept_marks x s (calm_keeps m x s k)
 
   -- the timer stays, or is stopped as the connection closes
   calm_timer : (m : Meaning t) (x : Move t) (s : View t) → IsCalm m x s → ((timers_move x s).max_ack_delay ≡ s.timers.max_ack_delay) ⊎ (((timers_move x s).max_ack_delay ≡ None) × (is_open (life_move x s).state ≡ false))
-  unfolding timers_move life_move life_closed life_drained life_raised clock_set timers_paced timers_held timers_armed timers_outlived timers_closing timers_stopped
+  unfolding timers_move life_move life_closed life_drained life_raised clock_set timers_paced timers_held timers_armed timers_outlived timers_closing timers_stopped timers_keeping timers_discarded
   calm_timer m (Take id fs) s k = absurd k
   calm_timer m (Accept time id n e g v) s k = absurd k
   calm_timer m Release s k = absurd k
@@ -165,6 +149,7 @@ module _ {t : Types} where
   calm_timer m (Shut time close) s k = inr (refl, refl)
   calm_timer m (PeerCloses time) s k = inr (refl, refl)
   calm_timer m (Raise to) s k = inr (refl, ap is_open k)
+  calm_timer m (Unseal time n which fresh session) s k = inl (keeping_same (λ (v : Timers). v.max_ack_delay) (sets_floor which fresh (ring_of s.keys)) s.timers (probe_timeout_now s «Data») time (λ v probe at. refl))
   calm_timer m (Issue time given) s k = inl (issued_delay (is_drained s.life.state) s.timers _ time)
   calm_timer m _ s k = inl refl
 
@@ -340,11 +325,17 @@ module _ {t : Types} where
 
   -- ---- what an input does
 
+  -- of the timer of an ACK that is held back
+  record HoldsTimer (now : ℕ) (ds : List Did) (s s' : View t) : Type 0 where
+    pub sets : is_open s'.life.state ≡ true → (marks_of s).delay_set ≡ false → (marks_of s').delay_set ≡ true → (s'.timers.max_ack_delay ≡ Some (plus now ack_delay_most)) ⊎ (list_any seals_ack ds ≡ true)
+    pub waits : (at : ℕ) → is_open s'.life.state ≡ true → s.timers.max_ack_delay ≡ Some at →
+        (s'.timers.max_ack_delay ≡ Some at) ⊎ ((list_any seals_ack ds ≡ true) ⊎ ((at ≤ now) × (is_owed_or_clear s' ≡ true)))
+
   record Result (now : ℕ) (a b : At t) : Type 0 where
     pub since : List Did
     pub appended : b.did ≡ a.did ++ since
     pub kept : AckHolds a.state → AckHolds b.state
-    pub holds : AckHolds a.state → HoldsAck now since a.state b.state
+    pub holds : AckHolds a.state → HoldsTimer now since a.state b.state
 
   holding_result : (now : ℕ) (a b : At t) → Holding now a b → Result now a b
   holding_result now a b h = record { since = h.since; appended = h.appended; kept = h.kept; holds = λ k. record { sets = h.sets k; waits = λ at o e. either (h.waits k at o e) } }
@@ -390,20 +381,22 @@ module _ {t : Types} where
       calmly_next time a b (wanted_anew time (asks_anew a.state.lower.ids) b) (calmly_if m time Outlive a true tt) (calmly_if m time (Want time (asks_anew a.state.lower.ids)) b (is_open b.state.life.state) tt)
   outlived_calmly m time a false = calmly_if m time Outlive a false tt
 
-  alive_result : (m : Meaning t) (time : ℕ) (a : At t) (b : Bool) → Result time a (if b then a else ack_expired time (ids_expired time (pacing_expired time (close_expired time (idle_expired time (loss_expired m time a))))))
-  unfolding loss_expired idle_expired close_expired pacing_expired ids_expired ack_expired
+  alive_result : (m : Meaning t) (time : ℕ) (a : At t) (b : Bool) → Result time a (if b then a else ack_expired time (ids_expired time (pacing_expired time (keys_expired time (close_expired time (idle_expired time (loss_expired m time a)))))))
+  unfolding loss_expired idle_expired close_expired keys_expired pacing_expired ids_expired ack_expired
   alive_result m time a true = holding_result time a a (holding_here time a)
   alive_result m time a false =
       let b : At t = loss_expired m time a in
       let c : At t = idle_expired time b in
       let d : At t = close_expired time c in
-      let e : At t = pacing_expired time d in
+      let k : At t = keys_expired time d in
+      let e : At t = pacing_expired time k in
       let f : At t = ids_expired time e in
       released_result time a f (has_come f.state.timers.max_ack_delay time) refl
       (calmly_next time a b f (lost_calmly m time a (has_come a.state.timers.loss_detection time))
       (calmly_next time b c f (killed_calmly m time lost.TimedOut b (has_come b.state.timers.idle time))
       (calmly_next time c d f (calmly_if m time (Raise state.Drained) c (has_come c.state.timers.close time) refl)
-      (calmly_next time d e f (calmly_if m time Pace d (has_come d.state.timers.pacing time) tt) (outlived_calmly m time e (has_come e.state.timers.push_new_cid time))))))
+      (calmly_next time d k f (calmly_if m time Discard d (has_come d.state.timers.key_discard time) tt)
+      (calmly_next time k e f (calmly_if m time Pace k (has_come k.state.timers.pacing time) tt) (outlived_calmly m time e (has_come e.state.timers.push_new_cid time)))))))
 
   timeout_result : (m : Meaning t) (time : ℕ) (a : At t) → Result time a (timeout_after m time a)
   unfolding timeout_after
@@ -428,7 +421,7 @@ module _ {t : Types} where
   -- ---- steps and runs
 
   -- what is said of two views holds of others with the same life, timers and what waits
-  same_views : (now : ℕ) (ds : List Did) (v w w' : View t) → w'.life.state ≡ w.life.state → w'.timers ≡ w.timers → w'.waiting ≡ w.waiting → HoldsAck now ds v w → HoldsAck now ds v w'
+  same_views : (now : ℕ) (ds : List Did) (v w w' : View t) → w'.life.state ≡ w.life.state → w'.timers ≡ w.timers → w'.waiting ≡ w.waiting → HoldsTimer now ds v w → HoldsTimer now ds v w'
   same_views now ds v w w' life timers waits h = record {
     sets = λ o f e. first (h.sets (ap is_open (sym life) ∙ o) f (ap (λ (x : Waiting). (data_marks x.spaces).delay_set) (sym waits) ∙ e));
     waits = λ at o e. second at (h.waits at (ap is_open (sym life) ∙ o) e);
@@ -449,7 +442,7 @@ module _ {t : Types} where
     timed = λ e. ap (λ (x : Waiting). (data_marks x.spaces).delay_set) waits ∙ h.timed (ap (λ (x : Timers). is_some x.max_ack_delay) (sym timers) ∙ e);
   }
 
-  step_result : (m : Meaning t) (k : ℕ) (s : View t) (i : Input) (x : Step) (s' : View t) → IsStep m k s i x s' → AckHolds s → AckHolds s' × HoldsAck x.now x.did s s'
+  step_result : (m : Meaning t) (k : ℕ) (s : View t) (i : Input) (x : Step) (s' : View t) → IsStep m k s i x s' → AckHolds s → AckHolds s' × HoldsTimer x.now x.did s s'
   unfolding called began step_after reported state_move life_move timers_move waiting_move clock_set ready_reported connected_reported all_heard_reported lost_reported notices_reported drained_reported
   step_result m k s i x s' h holds =
       let a : At t = began s (time_of i) in
@@ -457,9 +450,9 @@ module _ {t : Types} where
       let r : Result (time_of i) a b = input_result m i h.choice a h.allowed in
       let start : AckHolds a.state = record { asked = holds.asked; timed = holds.timed } in
       let deeds : x.did ≡ r.since = h.deeds ∙ r.appended in
-      let told : HoldsAck (time_of i) r.since a.state b.state = r.holds start in (
+      let told : HoldsTimer (time_of i) r.since a.state b.state = r.holds start in (
         same_holds b.state s' h.timers h.waiting (r.kept start),
-        subst (λ (n : ℕ). HoldsAck n x.did s s') (sym h.time) (subst (λ (ds : List Did). HoldsAck (time_of i) ds s s') (sym deeds)
+        subst (λ (n : ℕ). HoldsTimer n x.did s s') (sym h.time) (subst (λ (ds : List Did). HoldsTimer (time_of i) ds s s') (sym deeds)
             (same_views (time_of i) r.since s b.state s' (ap (λ (l : Life). l.state) h.life) h.timers h.waiting (record { sets = told.sets; waits = told.waits }))),
       )
 
@@ -475,6 +468,7 @@ module _ {t : Types} where
   run_each_holds m k s [] [] s' r h = tt
   run_each_holds m k s (i ∷ is) (x ∷ xs) s' r h =
       let both = step_result m k s i x r.0 r.1 h in
-      (r.0, r.1, both.1, run_each_holds m (k + 1) r.0 is xs s' r.2 both.0)
+      let holds : HoldsAck x.now x.did s r.0 = record { owes = owes_step m k s i x r.0 r.1; sets = both.1.sets; waits = both.1.waits } in
+      (r.0, r.1, asks_step m k s i x r.0 r.1, both.0, holds, run_each_holds m (k + 1) r.0 is xs s' r.2 both.0)
   run_each_holds m k s [] (x ∷ xs) s' r h = absurd r
   run_each_holds m k s (i ∷ is) [] s' r h = absurd r

@@ -1,6 +1,6 @@
 -- What each move leaves of the 1-RTT packets that are to be acknowledged, and of the timer of an ACK that is held back.
 use Rattle.std.proofs.Common.{◌≡◌, ℕ, ◌<◌, ◌≤◌, ◌⊎◌, inl, inr, List, [], ◌∷◌, ◌++◌, refl, ap, sym, ◌∙◌, subst, Bool, true, false, Option, Some, None, if◌then◌else◌, arith}
-use Rattle.std.specs.Prelude.{◌&&◌, ◌||◌, not, nat_le}
+use Rattle.std.specs.Prelude.{◌-◌, ◌&&◌, ◌||◌, not, nat_le, nat_lt}
 use Rattle.std.proofs.lemmas.Bool.Decides.{nat_tests}
 use Rattle.std.specs.List.{list_any}
 use Rattle.std.proofs.lemmas.List.Folds.{list_any-append}
@@ -12,7 +12,7 @@ use Rattle.qc_flight.specs.Packets.{Entry}
 use Rattle.qc_frame.specs.Frame.{FrameValue}
 use Rattle.qc_frame.specs.declared.frames.FrameOf.TheVariants as frames
 use Rattle.qc_path.specs.Acks.{AckMarks, acks_confirmed, counted_in, greatest_noted, makes_owed, marks_received, marks_sent, owed_with, sets_delay}
-use Rattle.qc_path.specs.Arrived.{Window}
+use Rattle.qc_path.specs.Arrived.{Window, exceeds}
 use Rattle.qc_path.specs.declared.pending_acks.Arrival.{Arrival}
 use Rattle.qc_recovery.specs.declared.calls.Fired.{Fired}
 use Rattle.qc_recovery.specs.declared.calls.Fired.TheVariants as fired
@@ -25,8 +25,17 @@ use Rattle.qc_laws.specs.AckLaws.{seals_ack}
 use Rattle.qc_state.specs.Acks.{is_ack}
 use Rattle.qc_state.specs.Timers.{ack_delay_most, has_come, timers_acking, timers_holding, timers_sealed}
 use Rattle.qc_laws.proofs.CryptoPlaces.{bundled_spaces}
-use Rattle.qc_state.specs.Spaces.{space_of, with_space}
-use Rattle.qc_state.specs.Waiting.{acked_in, again, all_again, all_confirmed, bundle_next, confirmed, fired_in, lost_in, marks_begun, packet_told, packets_acked, packets_lost, probes_added, waiting_without, without, without_all}
+use Rattle.qc_state.specs.Spaces.{is_space, space_of, with_space}
+use Rattle.qc_state.specs.Moves.{Accept, Ack, Ask, Begin, Confirm, Fire, Forget, Move, Owe, Release, Seal, Shut, Take, Write, waiting_move}
+use Rattle.qc_state.specs.Offers.{packet_begun}
+use Rattle.qc_state.specs.Types.{Types}
+use Rattle.qc_state.specs.View.{View}
+use Rattle.qc_state.specs.Waiting.{acked_in, again, all_again, all_confirmed, bundle_next, close_begun, confirmed, crypto_more, crypto_written, done_asked, fired_in, frames_again, lost_in, marks_begun, nothing_left, packet_told, packets_acked, packets_lost, ping_asked, probe_spent, probes_added, space_left, waiting_without, without, without_all}
+use Rattle.qc_state.proofs.Probed.{begun_holds}
+
+pub or_false : (b : Bool) → (b || false) ≡ b
+or_false true = refl
+or_false false = refl
 
 -- the marks of the packets of Data that came
 abbrev pub data_marks : Spaces SpaceWaiting → AckMarks
@@ -140,6 +149,28 @@ all_three true false true is = refl
 all_three true false false is = refl
 all_three false o d is = cc
 
+-- an ACK is asked for from then on where it was before, or the packet elicits one
+one_more : (n : ℕ) → nat_lt 0 (plus n 1) ≡ true
+one_more n = let some : 0 < plus n 1 = omega arith in grind (arith, nat_tests)
+
+pub or_true : (b : Bool) → (b || true) ≡ true
+or_true true = refl
+or_true false = refl
+
+pub received_count : (seen : Window) (p : Arrival) (m : AckMarks) → nat_lt 0 (marks_received true seen p m).eliciting ≡ (nat_lt 0 m.eliciting || p.ack_eliciting)
+unfolding marks_received counted_in greatest_noted
+received_count seen p m = by_kind p.ack_eliciting (greatest_noted p m) _ (noted_same (exceeds m.greatest p.number) m (Some p.number) p.at)
+  where
+    by_kind : (e : Bool) (k : AckMarks) (g : Option ℕ) → k.eliciting ≡ m.eliciting →
+        nat_lt 0 (if e then record k { eliciting = plus k.eliciting 1; greatest_eliciting = g } else record k { silent = plus k.silent 1 }).eliciting ≡ (nat_lt 0 m.eliciting || e)
+    by_kind true k g same = one_more k.eliciting ∙ sym (or_true (nat_lt 0 m.eliciting))
+    by_kind false k g same = ap (λ (n : ℕ). nat_lt 0 n) same ∙ sym (or_false (nat_lt 0 m.eliciting))
+
+-- an ACK that was owed is owed
+pub received_owed : (in_data : Bool) (seen : Window) (p : Arrival) (m : AckMarks) → m.owed ≡ true → (marks_received in_data seen p m).owed ≡ true
+unfolding marks_received owed_with
+received_owed in_data seen p m is = ap (λ (b : Bool). b || makes_owed in_data seen p m) is
+
 pub received_asked : (seen : Window) (p : Arrival) (m : AckMarks) → (0 < m.eliciting → (m.owed || m.delay_set) ≡ true) → 0 < (marks_received true seen p m).eliciting → ((marks_received true seen p m).owed || (marks_received true seen p m).delay_set) ≡ true
 unfolding marks_received sets_delay owed_with
 received_asked seen p m h some = by_kind p.ack_eliciting refl
@@ -182,10 +213,6 @@ before xs ys e = list_any-append seals_ack xs ys ∙ first (list_any seals_ack x
     first true y h = refl
     first false y h = cc
 
-pub or_false : (b : Bool) → (b || false) ≡ b
-or_false true = refl
-or_false false = refl
-
 pub holding_timer : (v : Timers) (b : Bool) (time : ℕ) → (timers_holding v b time).max_ack_delay ≡ (if b then Some (plus time ack_delay_most) else v.max_ack_delay)
 unfolding timers_holding
 holding_timer v true time = refl
@@ -207,6 +234,18 @@ taken_marks Initial v fs = inr refl
 taken_marks Handshake v fs = inr refl
 taken_marks Data v fs = inl (all_taken v.application fs)
 
+-- only an ACK of 1-RTT packets is sent of them
+taken_exact : (id : SpaceId) (v : Spaces SpaceWaiting) (fs : List FrameValue) → IsTaken (is_space id «Data» && list_any is_ack fs) (data_marks v) (data_marks (with_space v id (without_all (space_of v id) fs)))
+taken_exact Initial v fs = record { same = λ e. refl; sent = λ e. absurd cc }
+taken_exact Handshake v fs = record { same = λ e. refl; sent = λ e. absurd cc }
+taken_exact Data v fs = all_taken v.application fs
+
+pub sealed_exact : (id : SpaceId) (v : Waiting) (fs : List FrameValue) (last : Bool) (next : ℕ) →
+    IsTaken (is_space id «Data» && list_any is_ack fs) (data_marks v.spaces) (data_marks (bundle_next (packet_told (waiting_without v id fs) last) fs next).spaces)
+unfolding bundle_next packet_told waiting_without
+sealed_exact id v fs last next = subst (λ (m : AckMarks). IsTaken (is_space id «Data» && list_any is_ack fs) (data_marks v.spaces) m)
+    (sym (ap (λ (x : Spaces SpaceWaiting). data_marks x) (bundled_spaces _ next (list_any is_ack fs)))) (taken_exact id v.spaces fs)
+
 pub sealed_marks : (id : SpaceId) (v : Waiting) (fs : List FrameValue) (last : Bool) (next : ℕ) → let w : Waiting = bundle_next (packet_told (waiting_without v id fs) last) fs next in
     (IsTaken (list_any is_ack fs) (data_marks v.spaces) (data_marks w.spaces)) ⊎ (data_marks w.spaces ≡ data_marks v.spaces)
 unfolding bundle_next packet_told waiting_without
@@ -216,3 +255,40 @@ sealed_marks id v fs last next = subst (λ (m : AckMarks). (IsTaken (list_any is
 -- a timer that has come was set for no later time
 pub came_by : (at now : ℕ) (d : Option ℕ) → d ≡ Some at → has_come d now ≡ true → at ≤ now
 came_by at now d is h = let come : nat_le at now ≡ true = ap (λ (x : Option ℕ). has_come x now) (sym is) ∙ h in grind (arith, nat_tests)
+
+-- ---- moves
+
+module _ {t : Types} where
+  begun_marks : (space : SpaceId) (opens : Bool) (s : View t) → data_marks (packet_begun space opens s).waiting.spaces ≡ data_marks s.waiting.spaces
+  unfolding probe_spent frames_again ping_asked
+  begun_marks space opens s =
+      begun_holds (λ (v : Waiting). data_marks v.spaces ≡ data_marks s.waiting.spaces)
+      (λ w other h. put_marks other w.spaces (record (space_of w.spaces other) { probes = (space_of w.spaces other).probes - 1 }) refl ∙ h)
+      (λ w other fs h. put_marks other w.spaces (all_again (space_of w.spaces other) fs) (ap (λ p. p.marks) (all_again_acks (space_of w.spaces other) fs)) ∙ h)
+      (λ w other h. put_marks other w.spaces (record (space_of w.spaces other) { ping = true }) refl ∙ h)
+      space opens s refl
+
+  -- the moves that leave the marks: no packet is taken, sealed or accepted, and no ACK that was held back is owed
+  abbrev pub KeepsMarks : Move t → Type 0
+  KeepsMarks (Take id fs) = ⊥
+  KeepsMarks (Seal time form n size fs) = ⊥
+  KeepsMarks (Accept time id n e g v) = ⊥
+  KeepsMarks Release = ⊥
+  KeepsMarks _ = Unit {0}
+
+  pub kept_marks : (x : Move t) (s : View t) → KeepsMarks x → data_marks (waiting_move x s).spaces ≡ data_marks s.waiting.spaces
+  unfolding waiting_move ping_asked space_left nothing_left crypto_written done_asked close_begun
+  kept_marks (Take id fs) s k = absurd k
+  kept_marks (Seal time form n size fs) s k = absurd k
+  kept_marks (Accept time id n e g v) s k = absurd k
+  kept_marks Release s k = absurd k
+  kept_marks (Ask space) s k = put_marks space s.waiting.spaces (record (space_of s.waiting.spaces space) { ping = true }) refl
+  kept_marks (Forget space) s k = put_marks space s.waiting.spaces (nothing_left (space_of s.waiting.spaces space)) refl
+  kept_marks (Ack space n after) s k = settled_marks s.waiting space after.acked after.lost
+  kept_marks (Fire after) s k = fired_marks s.waiting after.fired
+  kept_marks (Begin space opens) s k = begun_marks space opens s
+  kept_marks (Write bytes keys session) s k = put_marks s.keys.highest s.waiting.spaces (record (space_of s.waiting.spaces s.keys.highest) { crypto = crypto_more (space_of s.waiting.spaces s.keys.highest).crypto bytes }) refl
+  kept_marks Confirm s k = put_marks «Data» s.waiting.spaces (record (space_of s.waiting.spaces «Data») { done = true }) refl
+  kept_marks Owe s k = refl
+  kept_marks (Shut time close) s k = refl
+  kept_marks _ s k = refl

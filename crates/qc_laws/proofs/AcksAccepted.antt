@@ -24,7 +24,7 @@ use Rattle.qc_state.specs.Keys.{epoch_in}
 use Rattle.qc_state.specs.Forms.{number_space, is_early}
 use Rattle.qc_state.specs.Headline.{deeds_of, KnownBehind, AcksOnly, SealsKnown, AcksKnown, IsKept, EachAcksKnown}
 use Rattle.qc_state.specs.Life.{is_open}
-use Rattle.qc_state.specs.Moves.{Probe, Move, Clock, Ask, Take, Seal, Forget, Enter, Expect, Fail, Accept, Fix, Hear, Ack, Fire, Arm, Pace, Release, Begin, Skip, Come, Read, Write, Ready, Token, Learn, Want, Confirm, Establish, Tell, PeerClosesToo, PeerCloses, Owe, Shut, Raise, Give, Say, ReportReady, ReportConnected, ReportLost, ReportNotice, ReportNotices, ReportDrained, accepts, state_move, move_to, deeds_move, waiting_move, numbers_move, keys_move, life_move, MayMove, IsTold, told, arrival_of, Finish, Hand, Call, ReportStream, ReportStreams, told_to_streams, Post, ReportHeard, ReportAllHeard, Insert, Switch, Retire, Issue, Outlive, Hold, Spend}
+use Rattle.qc_state.specs.Moves.{Probe, Move, Clock, Ask, Take, Seal, Forget, Enter, Expect, Fail, Accept, Fix, Hear, Ack, Fire, Arm, Pace, Release, Begin, Skip, Come, Read, Write, Ready, Token, Learn, Want, Confirm, Establish, Tell, PeerClosesToo, PeerCloses, Owe, Shut, Raise, Give, Say, ReportReady, ReportConnected, ReportLost, ReportNotice, ReportNotices, ReportDrained, accepts, state_move, move_to, deeds_move, waiting_move, numbers_move, keys_move, life_move, MayMove, IsTold, told, arrival_of, Finish, Hand, Call, ReportStream, ReportStreams, told_to_streams, Post, ReportHeard, ReportAllHeard, Insert, Switch, Retire, Issue, Outlive, Hold, Spend, Discard, Unseal}
 use Rattle.qc_state.specs.Numbers.{next_number}
 use Rattle.qc_state.specs.Offers.{packet_begun}
 use Rattle.qc_state.proofs.Probed.{begun_holds}
@@ -225,6 +225,8 @@ module _ {t : Types} where
   knows_move id (Enter space n v) a h k = deed_knows id (Enter space n v) _ a refl tt (λ n m. inr m)
   knows_move id (Expect token) a h k = silent_knows id (Expect token) a refl (λ n m. m)
   knows_move id Fail a h k = silent_knows id Fail a refl (λ n m. m)
+  knows_move id (Unseal time n which fresh session) a h k = silent_knows id (Unseal time n which fresh session) a refl (λ n m. m)
+  knows_move id Discard a h k = silent_knows id Discard a refl (λ n m. m)
   knows_move id (Accept time space n e g v) a h k =
       deed_knows id (Accept time space n e g v) (did.Piece (Some space) (Some n) v) a refl tt
       (came_kept id space a.state.waiting (arrived n (numbers.came_in a.state.numbers space)) (arrival_of time n e g) g.mark v k)
@@ -285,6 +287,7 @@ module _ {t : Types} where
   received_knows (Enter id n v) s r = tt
   received_knows (Expect token) s r = tt
   received_knows Fail s r = tt
+  received_knows (Unseal time n which fresh session) s r = tt
   received_knows (Accept time id n e g v) s r = r
   received_knows (Fix cid) s r = tt
   received_knows (Hear bytes) s r = tt
@@ -363,6 +366,7 @@ module _ {t : Types} where
   timed_knows (Fire after) s r = tt
   timed_knows (Arm at) s r = tt
   timed_knows Pace s r = tt
+  timed_knows Discard s r = tt
   timed_knows Release s r = tt
   timed_knows Outlive s r = tt
   timed_knows (Want time count) s r = tt

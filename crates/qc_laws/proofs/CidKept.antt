@@ -16,6 +16,7 @@ use Rattle.qc_frame.specs.declared.frames.NewConnectionId.{NewConnectionId}
 use Rattle.qc_ids.specs.CidQueue.{active_seq_of}
 use Rattle.qc_ids.specs.LocalCids.{may_retire}
 use Rattle.qc_ids.specs.declared.cid_queue.KeptCid.{KeptCid}
+use Rattle.qc_rings.specs.declared.which.Which.{Which}
 use Rattle.qc_state.specs.declared.coming.Coming.{Coming}
 use Rattle.qc_state.specs.declared.deeds.Did.{Did}
 use Rattle.qc_state.specs.declared.deeds.Did.TheVariants as did
@@ -39,7 +40,7 @@ use Rattle.qc_state.specs.Ids.{active_limit, first_error, insert_stop, sealed_ci
 use Rattle.qc_state.specs.Keys.{epoch_in}
 use Rattle.qc_state.specs.Life.{all_heard_reported, connected_reported, data_ready, drained_reported, identifiers_wanted, is_open, life_closed, life_drained, life_established, life_raised, lost_reported, notices_reported, rank_of, ready_reported, reason_given, token_learned}
 use Rattle.qc_state.specs.Lower.{datagrams_stepped, events_told, frames_sealed as frames_taken, ids_stepped, streams_stepped}
-use Rattle.qc_state.specs.Moves.{Accept, Ask, Call, Enter, Establish, Finish, Fire, Fix, Give, Hand, Insert, Issue, MayMove, Move, Owe, PeerCloses, PeerClosesToo, Post, Raise, ReportAllHeard, ReportConnected, ReportDrained, ReportHeard, ReportLost, ReportNotice, ReportNotices, ReportReady, Retire, Seal, Shut, Spend, Switch, Take, Tell, deeds_move, keys_move, life_move, lower_move, move_to, state_move}
+use Rattle.qc_state.specs.Moves.{Accept, Ask, Call, Enter, Establish, Finish, Fire, Fix, Give, Hand, Insert, Issue, MayMove, Move, Owe, PeerCloses, PeerClosesToo, Post, Raise, ReportAllHeard, ReportConnected, ReportDrained, ReportHeard, ReportLost, ReportNotice, ReportNotices, ReportReady, Retire, Seal, Shut, Spend, Switch, Take, Tell, deeds_move, keys_move, life_move, lower_move, move_to, state_move, Unseal}
 use Rattle.qc_state.specs.Numbers.{next_number}
 use Rattle.qc_state.specs.Paths.{is_blocked}
 use Rattle.qc_state.specs.Progress.{progress_after}
@@ -49,6 +50,7 @@ use Rattle.qc_state.specs.Run.{IsAllowed, IsStep, Run, began, called, datagram_l
 use Rattle.qc_state.specs.Run as run
 use Rattle.qc_state.specs.Sending.{Choice, packet_size, spent_after, told_sent}
 use Rattle.qc_state.specs.Stopping.{given_after, stopped_after}
+use Rattle.qc_state.specs.Updating.{fresh_by, session_by, unsealed_after}
 use Rattle.qc_state.specs.Types.{Types, Meaning}
 use Rattle.qc_state.specs.Verdicts.{verdict_of}
 use Rattle.qc_state.specs.View.{View, At}
@@ -68,7 +70,7 @@ use Rattle.qc_laws.proofs.CidWalk.{IsEasy, ending_known, payload_walked}
 use Rattle.qc_laws.proofs.EndsHold.{low_open}
 use Rattle.qc_laws.proofs.IdsFold.{given_append, moved_ids, steps_by}
 use Rattle.qc_laws.proofs.IdsHold.{flown_ids}
-use Rattle.qc_laws.proofs.KnownMoves.{IsElsewhere, IsKnownMove, expiry_known, outside_known, packet_known, sending_known}
+use Rattle.qc_laws.proofs.KnownMoves.{IsElsewhere, IsKnownAbout, expiry_known, known_about, outside_known, packet_known, sending_known}
 use Rattle.qc_laws.proofs.Receives.{datagram_holds}
 use Rattle.qc_laws.proofs.StreamCalls.{called_input, handed_told, heard_state, named_state, retired_state}
 
@@ -146,7 +148,7 @@ progress_none m time id (Insert new) s h = absurd h
 progress_none m time id _ s h = tt
 
 module _ {t : Types} (m : Meaning t) where
-  move_open : (x : Move t) (s : View t) → IsKnownMove m x s → RisesFrom x s → is_open (life_move x s).state ≡ true → is_open s.life.state ≡ true
+  move_open : (x : Move t) (s : View t) → IsKnownAbout m x s → RisesFrom x s → is_open (life_move x s).state ≡ true → is_open s.life.state ≡ true
   unfolding life_move life_closed life_drained data_ready life_established token_learned identifiers_wanted life_raised reason_given
   move_open (Shut time close) s k rises h = cc
   move_open (PeerCloses time) s k rises h = cc
@@ -219,7 +221,7 @@ module _ {t : Types} (m : Meaning t) where
         (all_append (in_use c) (given_to_ids g.runs.since) (given_to_ids h.runs.since) (all_more (in_use b) (in_use c) (given_to_ids g.runs.since) two.later (g.kept (h.runs.opens o) peers)) (h.kept o one.peers));
   }
 
-  runs_move : (x : Move t) (a : At t) → IsKnownMove m x a.state → RisesFrom x a.state → Runs a (move_to x a)
+  runs_move : (x : Move t) (a : At t) → IsKnownAbout m x a.state → RisesFrom x a.state → Runs a (move_to x a)
   unfolding move_to state_move
   runs_move x a k rises = record {
     since = deeds_move x a.state;
@@ -228,7 +230,7 @@ module _ {t : Types} (m : Meaning t) where
     remains = λ peers. subst (λ (y : ConnectionIds). Remain a.state.lower.ids.remote y.remote) (sym (moved_ids m x a.state k)) (steps_remain (steps_by x a.state) a.state.lower.ids peers);
   }
 
-  none_given : (x : Move t) (s : View t) (n : ℕ) → IsKnownMove m x s → HandsNone x → AllRetireBelow n (given_to_ids (deeds_move x s))
+  none_given : (x : Move t) (s : View t) (n : ℕ) → IsKnownAbout m x s → HandsNone x → AllRetireBelow n (given_to_ids (deeds_move x s))
   unfolding deeds_move
   none_given (Take id fs) s n k none = absurd k
   none_given (Seal time form number size fs) s n k none = absurd k
@@ -239,7 +241,7 @@ module _ {t : Types} (m : Meaning t) where
   none_given x s n k none = tt
 
   -- a move that hands them none
-  move : (x : Move t) (a : At t) → IsKnownMove m x a.state → HandsNone x → RisesFrom x a.state → Keeps a (move_to x a)
+  move : (x : Move t) (a : At t) → IsKnownAbout m x a.state → HandsNone x → RisesFrom x a.state → Keeps a (move_to x a)
   unfolding runs_move deeds_move
   move x a k none rises = record { runs = runs_move x a k rises; kept = λ o peers. none_given x a.state (in_use (move_to x a)) k none }
 
@@ -254,7 +256,7 @@ module _ {t : Types} (m : Meaning t) where
   runs_ending x h a may = runs_move x a (ending_known m x a.state h) (may_rise x a.state may)
 
   outside : (time : ℕ) (x : Move t) (a : At t) → IsOutside time x a.state → MayMove x a.state → Keeps a (move_to x a)
-  outside time x a h may = move x a (outside_known m time x a.state h) (outside_none time x a.state h) (may_rise x a.state may)
+  outside time x a h may = move x a (known_about m x a.state (outside_known m time x a.state h)) (outside_none time x a.state h) (may_rise x a.state may)
 
   -- this end closes for an error, and isn't open any more
   stopped : (time : ℕ) (error : TransportError) (a : At t) → Keeps a (stopped_after time error a)
@@ -293,8 +295,8 @@ module _ {t : Types} (m : Meaning t) where
   -- behind the frames the handshake goes on
   progress : (coming : Coming) (id : SpaceId) (a : At t) → Keeps a (progress_after m coming.time id a)
   progress coming id a =
-      let o : OpenPacket = record { coming = coming; space = id; spin = false; source = []; token = []; number = 0; payload = [] } in
-      holds_progress m coming.time id Keeps here next (λ x b h may. move x b (packet_known m o x b.state (progress_in_packet m o x b.state h)) (progress_none m coming.time id x b.state h) (may_rise x b.state may)) a
+      let o : OpenPacket = record { coming = coming; space = id; spin = false; which = None; source = []; token = []; number = 0; payload = [] } in
+      holds_progress m coming.time id Keeps here next (λ x b h may. move x b (known_about m x b.state (packet_known m o x b.state (progress_in_packet m o x b.state h))) (progress_none m coming.time id x b.state h) (may_rise x b.state may)) a
 
   easy_none : (x : Move t) → IsEasy x → HandsNone x
   easy_none (Insert new) h = absurd h
@@ -341,9 +343,16 @@ module _ {t : Types} (m : Meaning t) where
       next a b _ (accepted coming id number (list_any is_eliciting_item (items_of payload)) spin verdict.Admitted a) (next b c _ (fixed id source b) (payload_keeps coming id payload c))
   verdict_keeps coming id spin source number payload _ a = here a
 
+  -- the step of the ring that it makes first
+  unsealed_keeps : (time : ℕ) (which : Option Which) (number : ℕ) (a : At t) → Keeps a (unsealed_after m time which number a)
+  unsealed_keeps time None number a = here a
+  unsealed_keeps time (Some which) number a = move (Unseal time number which (fresh_by m which a.state) (session_by m which a.state.lower.session)) a tt tt tt
+
   packet_keeps : (o : OpenPacket) (a : At t) → Keeps a (packet_received m o a)
   unfolding received_after
-  packet_keeps o a = verdict_keeps o.coming o.space o.spin o.source o.number o.payload (verdict_of a.state o.space o.source o.token o.number) a
+  packet_keeps o a =
+      let b : At t = unsealed_after m o.coming.time o.which o.number a in
+      next a b _ (unsealed_keeps o.coming.time o.which o.number a) (verdict_keeps o.coming o.space o.spin o.source o.number o.payload (verdict_of b.state o.space o.source o.token o.number) b)
 
   -- ---- inputs
 
@@ -377,9 +386,9 @@ module _ {t : Types} (m : Meaning t) where
   input_keeps (input.Datagram time remote ecn bytes) choice a h = datagram_keeps (record { time = time; remote = remote; mark = ecn }) bytes a
   input_keeps (input.Timeout time) choice a h =
       holds_expired m Keeps here next (λ at_time b. move (Fire (fired_by m at_time b.state)) b (record { time = at_time; is = refl }) tt tt)
-      (λ x e b may. move x b (expiry_known m x b.state e) (expiry_none x e) (may_rise x b.state may)) time a
+      (λ x e b may. move x b (known_about m x b.state (expiry_known m x b.state e)) (expiry_none x e) (may_rise x b.state may)) time a
   input_keeps (input.Transmit time max) choice a h =
-      transmit_told m Keeps here next (λ x r b may. move x b (sending_known m x b.state r) (sending_none x (untold_sending x r)) (may_rise x b.state may))
+      transmit_told m Keeps here next (λ x r b may. move x b (known_about m x b.state (sending_known m x b.state r)) (sending_none x (untold_sending x r)) (may_rise x b.state may))
       (λ at_time size b. move (Spend _) b (record { time = at_time; size = size; is = refl }) tt tt)
       (λ at_time batch b. move (Finish batch.total _) b (record { time = at_time; bytes = batch.total; last = batch.last; is = refl }) tt tt) seal_keeps time max choice a h
   input_keeps (input.Close time code reason) choice a h = closed_by time _ a (is_open a.state.life.state)

@@ -45,10 +45,10 @@ use Rattle.qc_state.specs.Datagrams.{tells_datagram}
 use Rattle.qc_state.specs.Flight.{flown_packet}
 use Rattle.qc_state.specs.Forms.{is_early, number_space}
 use Rattle.qc_state.specs.Ids.{active_limit, again_ids, fired_ids, preferred_steps, sealed_cids}
-use Rattle.qc_state.specs.Keys.{DataKeys, HandshakeKeys, NewKeys, NoKeys, count_one, epoch_in, failure_counted, key_used, keys_dropped, keys_given, ring_used}
+use Rattle.qc_state.specs.Keys.{DataKeys, HandshakeKeys, NewKeys, NoKeys, count_one, epoch_in, failure_counted, key_used, keys_dropped, keys_given, ring_used, key_acked, key_discarded, key_opened}
 use Rattle.qc_state.specs.Life.{data_ready, identifiers_wanted, is_handshake, life_closed, life_drained, life_established, life_raised, reason_given, token_learned}
 use Rattle.qc_state.specs.Lower.{bytes_came, datagrams_stepped, flight_dropped, frame_handed, frames_sealed as frames_taken, ids_stepped, limits_learned, packet_flown, packets_settled, session_read, session_wrote, streams_closed, streams_stepped, timer_fired}
-use Rattle.qc_state.specs.Moves.{Probe, Accept, Ack, Arm, Begin, Clock, Establish, Expect, Fail, Finish, Fire, Fix, Forget, Give, Hand, Hear, Insert, IsTold as MayBeTold, Issue, Learn, MayMove, Move, Outlive, PeerCloses, PeerClosesToo, Raise, ReportAllHeard, ReportConnected, ReportDrained, ReportHeard, ReportLost, ReportNotice, ReportNotices, ReportReady, Retire, Say, Seal, Shut, Skip, Spend, Switch, Take, Tell, Want, Write, deeds_move, keys_move, life_move, lower_move, move_to, paths_move, setup_move, state_move}
+use Rattle.qc_state.specs.Moves.{Probe, Accept, Ack, Arm, Begin, Clock, Establish, Expect, Fail, Finish, Fire, Fix, Forget, Give, Hand, Hear, Insert, IsTold as MayBeTold, Issue, Learn, MayMove, Move, Outlive, PeerCloses, PeerClosesToo, Raise, ReportAllHeard, ReportConnected, ReportDrained, ReportHeard, ReportLost, ReportNotice, ReportNotices, ReportReady, Retire, Say, Seal, Shut, Skip, Spend, Switch, Take, Tell, Want, Write, deeds_move, keys_move, life_move, lower_move, move_to, paths_move, setup_move, state_move, Unseal, Discard}
 use Rattle.qc_state.specs.Moves as moves
 use Rattle.qc_state.specs.Numbers.{next_number, received_number}
 use Rattle.qc_state.specs.Offers.{begun_ids, oldest_in, probe_ids, wants_sending}
@@ -64,6 +64,7 @@ use Rattle.qc_state.proofs.Quieted.{probed_chosen, quiet_chosen}
 use Rattle.qc_state.proofs.Probed.{begun_streams}
 use Rattle.qc_state.proofs.Telling.{told_appends}
 use Rattle.qc_state.proofs.Transmitted.{IsSealable}
+use Rattle.qc_state.proofs.KeySteps.{acked_moves, discarded_moves, opened_moves, still_no_ring}
 use Rattle.qc_laws.specs.CidLaws.{Chosen, Given, IsPeers, Preferred}
 use Rattle.qc_laws.specs.IdLaws.{given_to_ids}
 use Rattle.qc_laws.specs.StreamsLaws.{frames_sealed}
@@ -72,7 +73,7 @@ use Rattle.qc_laws.proofs.CidQueues.{AllBelow, AllIssued, Fine, Goes, Peers, mor
 use Rattle.qc_laws.proofs.CryptoPlaces.{FiresIn, ack_flight, ack_other, dropped_highest, fired_flight, flown_apart, flown_here, same_or, used_highest}
 use Rattle.qc_laws.proofs.IdsFold.{given_append, moved_ids, steps_by}
 use Rattle.qc_laws.proofs.IdsHold.{AreCalm, begun_calm, calm_steps, fired_calm, flown_ids, packets_calm, sealed_calm}
-use Rattle.qc_laws.proofs.KnownMoves.{IsFiredBy, IsKnownMove, IsSettledBy}
+use Rattle.qc_laws.proofs.KnownMoves.{IsFiredBy, IsKnownAbout, IsSettledBy}
 use Rattle.qc_laws.proofs.StreamCalls.{handed_told, heard_state, named_state, retired_state}
 use Rattle.qc_laws.proofs.StreamsSealed.{frames_append}
 
@@ -197,7 +198,7 @@ module _ {t : Types} where
   same_side (Seal time form n size fs) s = refl
   same_side _ s = refl
 
-  move_handshake : (m : Meaning t) (x : Move t) (s : View t) → IsKnownMove m x s → is_handshake (life_move x s).state ≡ true → is_handshake s.life.state ≡ true
+  move_handshake : (m : Meaning t) (x : Move t) (s : View t) → IsKnownAbout m x s → is_handshake (life_move x s).state ≡ true → is_handshake s.life.state ≡ true
   unfolding life_move life_closed life_drained data_ready life_established token_learned identifiers_wanted life_raised reason_given
   move_handshake m (Shut time close) s k h = cc
   move_handshake m (PeerCloses time) s k h = cc
@@ -219,17 +220,20 @@ module _ {t : Types} where
   move_handshake m ReportDrained s k h = absurd k
   move_handshake m _ s k h = h
 
-  move_highest : (m : Meaning t) (x : Move t) (s : View t) → IsKnownMove m x s → (keys_move x s).highest ≡ Initial → s.keys.highest ≡ Initial
+  move_highest : (m : Meaning t) (x : Move t) (s : View t) → IsKnownAbout m x s → (keys_move x s).highest ≡ Initial → s.keys.highest ≡ Initial
   unfolding keys_move failure_counted
   move_highest m (Clock time) s k h = absurd k
   move_highest m (Take id fs) s k h = absurd k
   move_highest m (Seal time form n size fs) s k h = absurd k
   move_highest m (Forget id) s k h = sym (dropped_highest s.keys id) ∙ h
   move_highest m Fail s k h = h
+  move_highest m (Unseal time n which fresh session) s k h = sym (opened_moves s.keys which n fresh).highest ∙ h
+  move_highest m (Ack id n r) s k h = sym (acked_moves s.keys id n).highest ∙ h
+  move_highest m Discard s k h = sym (discarded_moves s.keys).highest ∙ h
   move_highest m (Write bytes keys session) s k h = given_highest s.keys keys h
   move_highest m _ s k h = h
 
-  pub calm_move : (m : Meaning t) (x : Move t) (s : View t) → IsKnownMove m x s → IsOther x → Calm s (state_move x s)
+  pub calm_move : (m : Meaning t) (x : Move t) (s : View t) → IsKnownAbout m x s → IsOther x → Calm s (state_move x s)
   unfolding state_move
   calm_move m x s k other = record { side = same_side x s; known = other_parameters x s other; handshake = move_handshake m x s k; highest = move_highest m x s k }
 
@@ -351,7 +355,7 @@ module _ {t : Types} (m : Meaning t) (first : List ℕ) (given : List (List ℕ)
       begun_by false false = probe_goes id s chosen parameters (wants_sending s id) h
 
   -- each move beside those with which a packet is taken and sealed, and that with which the peer chooses its id
-  goes_by : (x : Move t) (s : View t) (chosen : Option (List ℕ)) (parameters : Option TransportParameters) → IsKnownMove m x s → IsOther x → GivesIssued x → AllGiven (deeds_move x s) → Stands chosen parameters s → Goes (Known chosen parameters) I s.lower.ids (after (steps_by x s) s.lower.ids)
+  goes_by : (x : Move t) (s : View t) (chosen : Option (List ℕ)) (parameters : Option TransportParameters) → IsKnownAbout m x s → IsOther x → GivesIssued x → AllGiven (deeds_move x s) → Stands chosen parameters s → Goes (Known chosen parameters) I s.lower.ids (after (steps_by x s) s.lower.ids)
   unfolding deeds_move
   goes_by (Begin id opens) s chosen parameters k other issued gave h = begun_goes id opens s chosen parameters h
   goes_by (Ack id n r) s chosen parameters k other issued gave h = packets_go (Known chosen parameters) I r.lost s.lower.ids (ack_carries id r s (active_seq_of s.lower.ids.remote) k h.flight).0 h.fine
@@ -367,7 +371,7 @@ module _ {t : Types} (m : Meaning t) (first : List ℕ) (given : List (List ℕ)
   goes_by (Learn p) s chosen parameters k other issued gave h = absurd other
   goes_by x s chosen parameters k other issued gave h = steps_go (Known chosen parameters) I [] s.lower.ids tt h.fine
 
-  carries_by : (x : Move t) (s : View t) (chosen : Option (List ℕ)) (parameters : Option TransportParameters) → IsKnownMove m x s → Stands chosen parameters s → AllCarry (active_seq_of s.lower.ids.remote) (lower_move x s).recovery
+  carries_by : (x : Move t) (s : View t) (chosen : Option (List ℕ)) (parameters : Option TransportParameters) → IsKnownAbout m x s → Stands chosen parameters s → AllCarry (active_seq_of s.lower.ids.remote) (lower_move x s).recovery
   unfolding lower_move bytes_came session_read session_wrote limits_learned frame_handed streams_closed streams_stepped datagrams_stepped flight_dropped packets_settled timer_fired ids_stepped
   carries_by (Clock time) s chosen parameters k h = absurd k
   carries_by (Take id fs) s chosen parameters k h = absurd k
@@ -386,7 +390,7 @@ module _ {t : Types} (m : Meaning t) (first : List ℕ) (given : List (List ℕ)
     later = goes.later;
   }
 
-  move_stays : (x : Move t) (s : View t) (chosen : Option (List ℕ)) (parameters : Option TransportParameters) → IsKnownMove m x s → IsOther x → GivesIssued x → AllGiven (deeds_move x s) → Stands chosen parameters s → Stays chosen parameters s (state_move x s)
+  move_stays : (x : Move t) (s : View t) (chosen : Option (List ℕ)) (parameters : Option TransportParameters) → IsKnownAbout m x s → IsOther x → GivesIssued x → AllGiven (deeds_move x s) → Stands chosen parameters s → Stays chosen parameters s (state_move x s)
   unfolding state_move
   move_stays x s chosen parameters k other issued gave h =
       stays_by chosen parameters s (state_move x s) (subst (λ (y : ConnectionIds). Goes (Known chosen parameters) I s.lower.ids y) (sym (moved_ids m x s k)) (goes_by x s chosen parameters k other issued gave h)) (carries_by x s chosen parameters k h)
@@ -415,7 +419,7 @@ module _ {t : Types} (m : Meaning t) (first : List ℕ) (given : List (List ℕ)
   more_known chosen p n id (Preferred known address none prefers one is) = absurd cc
   more_known chosen p n id (Given new among number is) = Given new among number is
 
-  learn_stays : (p : TransportParameters) (s : View t) (chosen : Option (List ℕ)) → IsKnownMove m (Learn p) s → Stands chosen None s → Stays chosen (Some p) s (state_move (Learn p) s)
+  learn_stays : (p : TransportParameters) (s : View t) (chosen : Option (List ℕ)) → IsKnownAbout m (Learn p) s → Stands chosen None s → Stays chosen (Some p) s (state_move (Learn p) s)
   unfolding state_move lower_move limits_learned streams_stepped ids_stepped
   learn_stays p s chosen k h =
       stays_by chosen (Some p) s (state_move (Learn p) s)
@@ -449,6 +453,9 @@ module _ {t : Types} (m : Meaning t) (first : List ℕ) (given : List (List ℕ)
   early_handshake (Write bytes keys session) s plain h = absurd plain
   early_handshake (Forget id) s plain h = forgot_handshake s.keys id h
   early_handshake Fail s plain h = h
+  early_handshake (Unseal time n which fresh session) s plain h = (opened_moves s.keys which n fresh).handshake ∙ h
+  early_handshake (Ack id n r) s plain h = (acked_moves s.keys id n).handshake ∙ h
+  early_handshake Discard s plain h = (discarded_moves s.keys).handshake ∙ h
   early_handshake _ s plain h = h
 
   early_one_rtt : (x : Move t) (s : View t) → IsPlain x → s.keys.«data» ≡ None → (keys_move x s).«data» ≡ None
@@ -459,6 +466,9 @@ module _ {t : Types} (m : Meaning t) (first : List ℕ) (given : List (List ℕ)
   early_one_rtt (Write bytes keys session) s plain h = absurd plain
   early_one_rtt (Forget id) s plain h = forgot_one_rtt s.keys id h
   early_one_rtt Fail s plain h = h
+  early_one_rtt (Unseal time n which fresh session) s plain h = still_no_ring s.keys (key_opened s.keys which n fresh) (opened_moves s.keys which n fresh) h
+  early_one_rtt (Ack id n r) s plain h = still_no_ring s.keys (key_acked s.keys id n) (acked_moves s.keys id n) h
+  early_one_rtt Discard s plain h = still_no_ring s.keys (key_discarded s.keys) (discarded_moves s.keys) h
   early_one_rtt _ s plain h = h
 
   early_calm : (x : Move t) (s : View t) → IsPlain x → AreCalm (steps_by x s)
@@ -475,7 +485,7 @@ module _ {t : Types} (m : Meaning t) (first : List ℕ) (given : List (List ℕ)
   early_calm (Learn p) s plain = absurd plain
   early_calm _ s plain = tt
 
-  early_move : (x : Move t) (s : View t) → IsPlain x → IsKnownMove m x s → Early s → Early (state_move x s)
+  early_move : (x : Move t) (s : View t) → IsPlain x → IsKnownAbout m x s → Early s → Early (state_move x s)
   unfolding state_move
   early_move x s plain k h = record {
     handshake = early_handshake x s plain h.handshake;
@@ -573,7 +583,7 @@ module _ {t : Types} (m : Meaning t) (first : List ℕ) (given : List (List ℕ)
   told_unsealed (did.Gave to body) h = refl
   told_unsealed _ h = absurd h
 
-  unsealed_by : (x : Move t) (s : View t) → IsKnownMove m x s → IsToldSo x → frames_sealed (deeds_move x s) ≡ []
+  unsealed_by : (x : Move t) (s : View t) → IsKnownAbout m x s → IsToldSo x → frames_sealed (deeds_move x s) ≡ []
   unfolding deeds_move
   unsealed_by (Take id fs) s k may = absurd k
   unsealed_by (Seal time form n size fs) s k may = absurd k
@@ -582,7 +592,7 @@ module _ {t : Types} (m : Meaning t) (first : List ℕ) (given : List (List ℕ)
   unsealed_by x s k may = refl
 
   -- a move
-  move_leads : (x : Move t) (a : At t) → IsKnownMove m x a.state → IsToldSo x → IsOther x → GivesIssued x → (Holds a.state → (state_move x a.state).paths.peer_cid ≡ None → Early (state_move x a.state)) → Leads a (move_to x a)
+  move_leads : (x : Move t) (a : At t) → IsKnownAbout m x a.state → IsToldSo x → IsOther x → GivesIssued x → (Holds a.state → (state_move x a.state).paths.peer_cid ≡ None → Early (state_move x a.state)) → Leads a (move_to x a)
   unfolding move_to
   move_leads x a k may other issued early = record {
     told = other_told x a other;
@@ -613,7 +623,7 @@ module _ {t : Types} (m : Meaning t) (first : List ℕ) (given : List (List ℕ)
   plain_other _ plain = tt
 
   -- a plain one
-  pub plain_leads : (x : Move t) (a : At t) → IsPlain x → IsKnownMove m x a.state → IsToldSo x → GivesIssued x → Leads a (move_to x a)
+  pub plain_leads : (x : Move t) (a : At t) → IsPlain x → IsKnownAbout m x a.state → IsToldSo x → GivesIssued x → Leads a (move_to x a)
   plain_leads x a plain k may issued =
       let other : IsOther x = plain_other x plain in
       move_leads x a k may other issued (λ h none. early_move x a.state plain k (h.early (sym (other_peer x a.state other) ∙ none)))
@@ -628,11 +638,11 @@ module _ {t : Types} (m : Meaning t) (first : List ℕ) (given : List (List ℕ)
   pub later_next : (a b c : At t) → Later a b → Later b c → Later a c
   later_next a b c g h = λ cid e. let one = g cid e in leads_next a b c one (h cid (one.told.chosen cid e))
 
-  pub later_move : (x : Move t) (a : At t) → IsKnownMove m x a.state → IsOther x → IsToldSo x → GivesIssued x → Later a (move_to x a)
+  pub later_move : (x : Move t) (a : At t) → IsKnownAbout m x a.state → IsOther x → IsToldSo x → GivesIssued x → Later a (move_to x a)
   later_move x a k other told issued = λ cid e. move_leads x a k told other issued (λ h none. absurd (let same = other_peer x a.state other in cc))
 
   -- its parameters are read, where none were known
-  pub later_learn : (p : TransportParameters) (a : At t) → IsKnownMove m (Learn p) a.state → a.state.setup.peer ≡ None → Later a (move_to (Learn p) a)
+  pub later_learn : (p : TransportParameters) (a : At t) → IsKnownAbout m (Learn p) a.state → a.state.setup.peer ≡ None → Later a (move_to (Learn p) a)
   unfolding move_to state_move paths_move path_named setup_move parameters_known deeds_move path_capped path_kept
   later_learn p a k none = λ cid e. record {
     told = record { since = []; appended = sym (append-nil a.did); chosen = λ other is. is };

@@ -21,6 +21,7 @@ use Rattle.qc_header.specs.Piece.{Piece, space_of}
 use Rattle.qc_ids.specs.CidQueue.{active_seq_of}
 use Rattle.qc_params.specs.declared.params.TransportParameters.{TransportParameters}
 use Rattle.qc_rings.specs.Keyed.{Keyed}
+use Rattle.qc_rings.specs.declared.which.Which.{Which}
 use Rattle.qc_state.specs.declared.coming.Coming.{Coming}
 use Rattle.qc_state.specs.declared.deeds.Did.TheVariants as did
 use Rattle.qc_state.specs.declared.deeds.Verdict.{Verdict}
@@ -37,7 +38,7 @@ use Rattle.qc_state.specs.Keys.{unmasking_key}
 use Rattle.qc_state.specs.Forms.{number_space}
 use Rattle.qc_state.specs.Ids.{active_limit, insert_stop}
 use Rattle.qc_state.specs.Life.{is_handshake, is_open, life_established}
-use Rattle.qc_state.specs.Moves.{Accept, Ask, Call, Clock, Confirm, Enter, Establish, Finish, Fire, Fix, Forget, Insert, Issue, Learn, MayMove, Move, Owe, PeerClosesToo, Post, Seal, Shut, Spend, Switch, Take, Tell, Token, Want, Write, armed_after, keys_move, life_move, lower_move, move_to, paths_move, setup_move, state_move}
+use Rattle.qc_state.specs.Moves.{Accept, Ask, Call, Clock, Confirm, Enter, Establish, Finish, Fire, Fix, Forget, Insert, Issue, Learn, MayMove, Move, Owe, PeerClosesToo, Post, Seal, Shut, Spend, Switch, Take, Tell, Token, Want, Write, armed_after, keys_move, life_move, lower_move, move_to, paths_move, setup_move, state_move, Unseal}
 use Rattle.qc_state.specs.Numbers.{next_number}
 use Rattle.qc_state.specs.Opening.{opened_at, opened_form, opened_in, opening_of}
 use Rattle.qc_state.specs.Paths.{is_blocked, peer_fixed}
@@ -48,6 +49,7 @@ use Rattle.qc_state.specs.Run.{IsAllowed, close_after, datagram_limit, input_aft
 use Rattle.qc_state.specs.Sending.{Choice, packet_size, spent_after, told_sent}
 use Rattle.qc_state.specs.Setup.{parameters_known}
 use Rattle.qc_state.specs.Stopping.{missing_parameters, parameter_error, stopped_after}
+use Rattle.qc_state.specs.Updating.{fresh_by, session_by, unsealed_after}
 use Rattle.qc_state.specs.Types.{Types, Meaning}
 use Rattle.qc_state.specs.Verdicts.{verdict_of}
 use Rattle.qc_state.specs.View.{View, At}
@@ -61,7 +63,7 @@ use Rattle.qc_datagrams.specs.Steps as datagrams
 use Rattle.qc_laws.proofs.CidMoves.{AllGiven, Calm, Early, GivesIssued, HoldsAt, IsOther, IsPlain, IsToldSo, Later, Leads, Once, Told, calm_fix, calm_here, calm_move, calm_next, calm_once, calm_seal, fix_leads, later_here, later_learn, later_move, later_next, leads_here, leads_next, may_tell, packet_leads, plain_leads, plain_other, told_here, told_move, told_next}
 use Rattle.qc_laws.proofs.CidQueues.{AllIssued}
 use Rattle.qc_laws.proofs.CidWalk.{IsEasy, ending_easy, ending_known, payload_walked}
-use Rattle.qc_laws.proofs.KnownMoves.{IsKnownMove, expiry_known, outside_known, sending_known}
+use Rattle.qc_laws.proofs.KnownMoves.{IsKnownAbout, expiry_known, known_about, outside_known, sending_known}
 use Rattle.qc_laws.proofs.Receives.{IsOpened, datagram_holds}
 use Rattle.qc_laws.proofs.StreamCalls.{called_input}
 
@@ -182,7 +184,7 @@ module _ {t : Types} (m : Meaning t) (first : List ℕ) (given : List (List ℕ)
   once_next : (a b c : At t) → OnceLater a b → OnceLater b c → OnceLater a c
   once_next a b c g h = λ once. let one = g once in let two = h one.1 in (later_next m first given I a b c one.0 two.0, two.1)
 
-  once_move : (x : Move t) (a : At t) → IsKnownMove m x a.state → IsOther x → IsToldSo x → GivesIssued m first given I x → OnceLater a (move_to x a)
+  once_move : (x : Move t) (a : At t) → IsKnownAbout m x a.state → IsOther x → IsToldSo x → GivesIssued m first given I x → OnceLater a (move_to x a)
   unfolding move_to
   once_move x a k other told issued = λ once. (later_move m first given I x a k other told issued, calm_once a.state (state_move x a.state) (calm_move m x a.state k other) once)
 
@@ -199,7 +201,7 @@ module _ {t : Types} (m : Meaning t) (first : List ℕ) (given : List (List ℕ)
   easy_issued (Issue time ids) h = absurd h
   easy_issued _ h = tt
 
-  once_easy : (x : Move t) (a : At t) → IsKnownMove m x a.state → IsEasy x → OnceLater a (move_to x a)
+  once_easy : (x : Move t) (a : At t) → IsKnownAbout m x a.state → IsEasy x → OnceLater a (move_to x a)
   once_easy x a k easy = once_move x a k (easy_other x easy) (easy_told x easy) (easy_issued x easy)
 
   once_ending : (x : Move t) → IsEnding x → (a : At t) → MayMove x a.state → OnceLater a (move_to x a)
@@ -224,7 +226,7 @@ module _ {t : Types} (m : Meaning t) (first : List ℕ) (given : List (List ℕ)
   along_here : (a : At t) → Along a a
   along_here a = record { later = later_here m first given I a; calm = calm_here a.state }
 
-  along_move : (x : Move t) (a : At t) → IsKnownMove m x a.state → IsOther x → IsToldSo x → GivesIssued m first given I x → Along a (move_to x a)
+  along_move : (x : Move t) (a : At t) → IsKnownAbout m x a.state → IsOther x → IsToldSo x → GivesIssued m first given I x → Along a (move_to x a)
   unfolding move_to
   along_move x a k other told issued = record { later = later_move m first given I x a k other told issued; calm = calm_move m x a.state k other }
 
@@ -406,15 +408,15 @@ module _ {t : Types} (m : Meaning t) (first : List ℕ) (given : List (List ℕ)
 
   -- ---- before the peer chose its id
 
-  opened_by : (h : ProtectedHeader) (p : Piece) (s : View t) (space : SpaceId) (source token : List ℕ) (spin : Bool) (number : ℕ) (payload : List ℕ) → Early m first given I s → space_of h ≡ Some space →
-      opened_at m s (opened_form h) p ≡ Opened source token spin number payload → space ≡ Initial
+  opened_by : (h : ProtectedHeader) (p : Piece) (s : View t) (space : SpaceId) (source token : List ℕ) (spin : Bool) (which : Option Which) (number : ℕ) (payload : List ℕ) → Early m first given I s → space_of h ≡ Some space →
+      opened_at m s (opened_form h) p ≡ Opened source token spin which number payload → space ≡ Initial
   unfolding unmasking_key
-  opened_by (protected.Initial dst src token_start token_len version) p s space source token spin number payload early spaced opened = cc
-  opened_by (protected.Long long.Handshake dst src version) p s space source token spin number payload early spaced opened =
+  opened_by (protected.Initial dst src token_start token_len version) p s space source token spin which number payload early spaced opened = cc
+  opened_by (protected.Long long.Handshake dst src version) p s space source token spin which number payload early spaced opened =
       absurd (let none : opened_at m s (Some form.Handshake) p ≡ Unreadable = none_opens m.mask m.opening (unmasking_key s.keys form.Handshake) _ _ _ p (ap (λ (k : Option (SpaceKeys t.H t.P)). option_map (λ (k : SpaceKeys t.H t.P). k.keys.header.remote) k) early.handshake) in cc)
-  opened_by (protected.Short spin_bit dst) p s space source token spin number payload early spaced opened =
+  opened_by (protected.Short spin_bit dst) p s space source token spin which number payload early spaced opened =
       absurd (let none : opened_at m s (Some form.OneRtt) p ≡ Unreadable = none_opens m.mask m.opening (unmasking_key s.keys form.OneRtt) _ _ _ p (ap (λ (k : Option (OneRttKeys t.H t.P)). option_map (λ (k : OneRttKeys t.H t.P). k.header.remote) k) early.one_rtt) in cc)
-  opened_by _ p s space source token spin number payload early spaced opened = absurd cc
+  opened_by _ p s space source token spin which number payload early spaced opened = absurd cc
 
   -- a payload of an Initial packet, with which the peer chooses its id, where it hasn't
   payload_leads : (coming : Coming) (source : List ℕ) (payload : List ℕ) (chosen : Option (List ℕ)) (a : At t) → a.state.paths.peer_cid ≡ chosen → Once a.state →
@@ -452,16 +454,29 @@ module _ {t : Types} (m : Meaning t) (first : List ℕ) (given : List (List ℕ)
 
   -- ---- a packet that opened
 
+  -- its step of the ring
+  unsealed_leads : (time : ℕ) (which : Option Which) (number : ℕ) (a : At t) → LeadsOn a (unsealed_after m time which number a)
+  unsealed_leads time None number a = here a
+  unsealed_leads time (Some which) number a = plain_leads m first given I (Unseal time number which (fresh_by m which a.state) (session_by m which a.state.lower.session)) a tt tt tt tt
+
+  unsealed_once : (time : ℕ) (which : Option Which) (number : ℕ) (a : At t) → OnceLater a (unsealed_after m time which number a)
+  unsealed_once time None number a = once_here a
+  unsealed_once time (Some which) number a = once_move (Unseal time number which (fresh_by m which a.state) (session_by m which a.state.lower.session)) a tt tt tt tt
+
+  -- and what follows it
   received_holds : (p : Piece) (o : OpenPacket) (a : At t) (chosen : Option (List ℕ)) → IsOpened m o.coming a.state p o → a.state.paths.peer_cid ≡ chosen → Once a.state → AllGiven m first given I (packet_received m o a).did → HoldsAt m first given I a →
       HoldsAt m first given I (packet_received m o a) × (active_seq_of a.state.lower.ids.remote ≤ active_seq_of (packet_received m o a).state.lower.ids.remote)
   unfolding received_after opening_of
   received_holds p o a (Some cid) opened is once gave h =
-      ((verdict_once o.coming o.space o.spin o.source o.number o.payload (verdict_of a.state o.space o.source o.token o.number) a once).0 cid is).holds gave h
+      let b : At t = unsealed_after m o.coming.time o.which o.number a in
+      ((once_next a b _ (unsealed_once o.coming.time o.which o.number a) (verdict_once o.coming o.space o.spin o.source o.number o.payload (verdict_of b.state o.space o.source o.token o.number) b) once).0 cid is).holds gave h
   received_holds p o a None opened is once gave h =
-      let initial : o.space ≡ Initial = opened_by p.header p a.state o.space o.source o.token o.spin o.number o.payload (h.view.early is) opened.form opened.opened in
+      let b : At t = unsealed_after m o.coming.time o.which o.number a in
+      let initial : o.space ≡ Initial = opened_by p.header p a.state o.space o.source o.token o.spin o.which o.number o.payload (h.view.early is) opened.form opened.opened in
       let leads : LeadsOn a (packet_received m o a) =
-      subst (λ (id : SpaceId). LeadsOn a (verdict_after m o.coming id o.spin o.source o.number o.payload (verdict_of a.state o.space o.source o.token o.number) a)) (sym initial)
-      (initial_leads o.coming o.spin o.source o.number o.payload (verdict_of a.state o.space o.source o.token o.number) a once) in
+      next a b _ (unsealed_leads o.coming.time o.which o.number a)
+      (subst (λ (id : SpaceId). LeadsOn b (verdict_after m o.coming id o.spin o.source o.number o.payload (verdict_of b.state o.space o.source o.token o.number) b)) (sym initial)
+      (initial_leads o.coming o.spin o.source o.number o.payload (verdict_of b.state o.space o.source o.token o.number) b (unsealed_once o.coming.time o.which o.number a once).1)) in
       leads.holds gave h
 
   -- what holds on; and the peer's parameters are read once
@@ -475,7 +490,7 @@ module _ {t : Types} (m : Meaning t) (first : List ℕ) (given : List (List ℕ)
       told = holds_packet m o (Told m first given I) (told_here m first given I) (told_next m first given I) (λ x b e may. told_move m first given I x b may) a opened.lively;
       holds = λ gave h. received_holds p o a a.state.paths.peer_cid (record { came = refl; form = opened.form; opened = opened.opened; lively = opened.lively }) refl once gave h;
     },
-    (verdict_once o.coming o.space o.spin o.source o.number o.payload (verdict_of a.state o.space o.source o.token o.number) a once).1,
+    (once_next a _ _ (unsealed_once o.coming.time o.which o.number a) (verdict_once o.coming o.space o.spin o.source o.number o.payload _ _) once).1,
   )
 
   -- ---- inputs
@@ -486,12 +501,12 @@ module _ {t : Types} (m : Meaning t) (first : List ℕ) (given : List (List ℕ)
   leads_next_once : (a b c : At t) → OnceLeads a b → OnceLeads b c → OnceLeads a c
   leads_next_once a b c g h = λ once. let one = g once in let two = h one.1 in (next a b c one.0 two.0, two.1)
 
-  plain : (x : Move t) (a : At t) → IsPlain x → IsKnownMove m x a.state → IsToldSo x → GivesIssued m first given I x → OnceLeads a (move_to x a)
+  plain : (x : Move t) (a : At t) → IsPlain x → IsKnownAbout m x a.state → IsToldSo x → GivesIssued m first given I x → OnceLeads a (move_to x a)
   unfolding move_to
   plain x a is k told issued = λ once. (plain_leads m first given I x a is k told issued, calm_once a.state (state_move x a.state) (calm_move m x a.state k (plain_other m first given I x is)) once)
 
   outside : (time : ℕ) (x : Move t) (a : At t) → IsOutside time x a.state → MayMove x a.state → OnceLeads a (move_to x a)
-  outside time x a h may = plain x a (outside_plain time x a.state h) (outside_known m time x a.state h) (may_tell x a.state may) (outside_issued time x a.state h)
+  outside time x a h may = plain x a (outside_plain time x a.state h) (known_about m x a.state (outside_known m time x a.state h)) (may_tell x a.state may) (outside_issued time x a.state h)
 
   seal : (time : ℕ) (form : Form) (fs : List FrameValue) (a : At t) → IsSealable time a.state form fs →
       OnceLeads a (move_to (Seal time form (next_number a.state.numbers (number_space form)) (packet_size a.state form fs) fs) (move_to (Take (number_space form) fs) a))
@@ -515,10 +530,10 @@ module _ {t : Types} (m : Meaning t) (first : List ℕ) (given : List (List ℕ)
   input_leads (input.Datagram time remote ecn bytes) choice a issued h = datagram_leads (record { time = time; remote = remote; mark = ecn }) bytes a
   input_leads (input.Timeout time) choice a issued h =
       holds_expired m OnceLeads leads_here_once leads_next_once (λ at_time b. plain (Fire (fired_by m at_time b.state)) b tt (record { time = at_time; is = refl }) tt tt)
-      (λ x e b may. plain x b (expiry_plain x e) (expiry_known m x b.state e) (may_tell x b.state may) (expiry_issued x e)) time a
+      (λ x e b may. plain x b (expiry_plain x e) (known_about m x b.state (expiry_known m x b.state e)) (may_tell x b.state may) (expiry_issued x e)) time a
   input_leads (input.Transmit time max) choice a issued h =
       transmit_told m OnceLeads leads_here_once leads_next_once
-      (λ x r b may. plain x b (sending_plain x (untold_sending x r)) (sending_known m x b.state r) (may_tell x b.state may) (sending_issued x (untold_sending x r)))
+      (λ x r b may. plain x b (sending_plain x (untold_sending x r)) (known_about m x b.state (sending_known m x b.state r)) (may_tell x b.state may) (sending_issued x (untold_sending x r)))
       (λ at_time size b. plain (Spend _) b tt (record { time = at_time; size = size; is = refl }) tt tt)
       (λ at_time batch b. plain (Finish batch.total _) b tt (record { time = at_time; bytes = batch.total; last = batch.last; is = refl }) tt tt) seal time max choice a h
   input_leads (input.Close time code reason) choice a issued h = closed_by time _ a (is_open a.state.life.state)

@@ -31,7 +31,7 @@ use Rattle.qc_state.specs.View.{View, At}
 use Rattle.qc_state.proofs.Ends.{holds_armed_now, holds_given, holds_stopped}
 use Rattle.qc_state.proofs.OpenPackets.{ended_stays}
 use Rattle.qc_state.proofs.ReceivedMoves.{IsEnding}
-use Rattle.qc_laws.proofs.KnownMoves.{IsKnownMove}
+use Rattle.qc_laws.proofs.KnownMoves.{IsKnownAbout}
 
 -- a move that frames make beside those with which the ids are handed a NEW_CONNECTION_ID; what it tells by itself, if it does, may be told so
 abbrev pub IsEasy : {t : Types} → Move t → Type 0
@@ -55,7 +55,7 @@ ending_easy (Tell d) h = absurd h
 ending_easy _ h = tt
 
 -- those by which this end leaves a space or closes are known
-pub ending_known : {t : Types} (m : Meaning t) (x : Move t) (s : View t) → IsEnding x → IsKnownMove m x s
+pub ending_known : {t : Types} (m : Meaning t) (x : Move t) (s : View t) → IsEnding x → IsKnownAbout m x s
 ending_known m (Forget id) s h = tt
 ending_known m (Arm at) s h = tt
 ending_known m (Shut time close) s h = tt
@@ -69,7 +69,7 @@ module _ {t : Types} (m : Meaning t) where
   told_settled time id ack d s = refl
 
 module _ {t : Types} (m : Meaning t) (R : At t → At t → Type 0) (here : (a : At t) → R a a) (next : (a b c : At t) → R a b → R b c → R a c)
-    (move : (x : Move t) (a : At t) → IsKnownMove m x a.state → IsEasy x → R a (move_to x a))
+    (move : (x : Move t) (a : At t) → IsKnownAbout m x a.state → IsEasy x → R a (move_to x a))
     (took : (new : NewConnectionId) (a : At t) → insert_stop new a.state.lower.ids ≡ None → R a (move_to (Insert new) a))
     (refused_new : (time : ℕ) (new : NewConnectionId) (error : TransportError) (a : At t) → insert_stop new a.state.lower.ids ≡ Some error → R a (stopped_after time error (move_to (Insert new) a)))
     (progress : (coming : Coming) (id : SpaceId) (a : At t) → R a (progress_after m coming.time id a)) where

@@ -27,7 +27,7 @@ pub or_either : (a b c : Bool) → (a ≡ true → c ≡ true) → (b ≡ true �
 or_either true b c f g h = f refl
 or_either false b c f g h = g h
 
-or_more : (a b c d : Bool) → (a ≡ true → c ≡ true) → (b ≡ true → d ≡ true) → (a || b) ≡ true → (c || d) ≡ true
+pub or_more : (a b c d : Bool) → (a ≡ true → c ≡ true) → (b ≡ true → d ≡ true) → (a || b) ≡ true → (c || d) ≡ true
 or_more a b c d f g h = or_either a b (c || d) (λ x. or_left c d (f x)) (λ y. or_right c d (g y)) h
 
 both : (a b : Bool) → a ≡ true → b ≡ true → (a && b) ≡ true
@@ -70,7 +70,7 @@ module _ (o : ℕ) where
   unfolding lies_in
   lies_here start end k h low high = both (nat_le start k.offset) (nat_lt k.offset end) (grind (arith, nat_tests)) (grind (arith, nat_tests))
 
-  lost_there : (start end : ℕ) (ks : List Kept) → start ≤ o → o < end → is_kept o ks ≡ true → is_lost o (marked true start end ks) ≡ true
+  pub lost_there : (start end : ℕ) (ks : List Kept) → start ≤ o → o < end → is_kept o ks ≡ true → is_lost o (marked true start end ks) ≡ true
   unfolding marked
   lost_there start end [] low high h = h
   lost_there start end (k ∷ ks) low high h = or_more (k.offset == o) (is_kept o ks) _ _ (λ e. range_head k (lies_in start end k) e (lies_here start end k e low high)) (lost_there start end ks low high) h
@@ -87,7 +87,7 @@ module _ (o : ℕ) where
       first_of true b h = refl
       first_of false b h = cc
 
-  lies_not : (start end : ℕ) (k : Kept) → (k.offset == o) ≡ true → (nat_le start o && nat_lt o end) ≡ false → lies_in start end k ≡ false
+  pub lies_not : (start end : ℕ) (k : Kept) → (k.offset == o) ≡ true → (nat_le start o && nat_lt o end) ≡ false → lies_in start end k ≡ false
   unfolding lies_in
   lies_not start end k h out = let same : k.offset ≡ o = grind (arith, nat_tests) in subst (λ (n : ℕ). (nat_le start n && nat_lt n end) ≡ false) (sym same) out
 
@@ -98,7 +98,7 @@ module _ (o : ℕ) where
       or_more ((k.offset == o) && k.lost) (is_lost o ks) _ _ (λ e. outside_head k (lies_in start end k) e (lies_not start end k (place_of k e) out)) (lost_outside start end ks out) h
 
   -- bytes in a row
-  row_has : (start : ℕ) (bs : List ℕ) → start ≤ o → o < start + length bs → is_kept o (row false start bs) ≡ true
+  pub row_has : (start : ℕ) (bs : List ℕ) → start ≤ o → o < start + length bs → is_kept o (row false start bs) ≡ true
   unfolding row
   row_has start [] low high = absurd (omega (arith, low, high))
   row_has start (b ∷ bs) low high = row_by (start == o) refl (λ later. row_has (suc start) bs later (omega (arith, high)))
@@ -129,7 +129,7 @@ more_next a b c g h = record { written = h.written ∙ g.written; sent = h.sent 
 pub more_awaited : (b c : Buffer) → More b c → (o : ℕ) → is_awaited o b ≡ true → is_awaited o c ≡ true
 more_awaited b c h o = or_more (nat_le b.sent o) (is_lost o b.kept) (nat_le c.sent o) (is_lost o c.kept) (λ e. ap (λ (n : ℕ). nat_le n o) h.sent ∙ e) (h.lost o)
 
-lost_grows : (start end : ℕ) (b : Buffer) → More b (range_lost start end b)
+pub lost_grows : (start end : ℕ) (b : Buffer) → More b (range_lost start end b)
 unfolding range_lost
 lost_grows start end b = record { written = refl; sent = refl; kept = λ o h. marked_kept o true start (min end b.sent) b.kept ∙ h; lost = λ o h. lost_more o start (min end b.sent) b.kept h }
 
@@ -177,7 +177,7 @@ lost_in_awaited o w (e ∷ es) kept h =
 
 -- ---- frames that are sealed
 
-sent_grown : (start end : ℕ) (b : Buffer) → b.sent ≤ b.written → sent_with start end b.sent b.written ≤ b.written
+pub sent_grown : (start end : ℕ) (b : Buffer) → b.sent ≤ b.written → sent_with start end b.sent b.written ≤ b.written
 unfolding sent_with
 sent_grown start end b h = by_start (nat_le start b.sent)
   where
@@ -186,7 +186,7 @@ sent_grown start end b h = by_start (nat_le start b.sent)
     by_start false = h
 
 -- a byte that waited waits, or lies in the range that was sealed
-sealed_awaited : (o start end : ℕ) (b : Buffer) → is_awaited o b ≡ true → (is_awaited o (range_sealed start end b) || (nat_le start o && nat_lt o end)) ≡ true
+pub sealed_awaited : (o start end : ℕ) (b : Buffer) → is_awaited o b ≡ true → (is_awaited o (range_sealed start end b) || (nat_le start o && nat_lt o end)) ≡ true
 unfolding range_sealed sent_with
 sealed_awaited o start end b h = by_place (nat_le start o && nat_lt o end) refl
   where

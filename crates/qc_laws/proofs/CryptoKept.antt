@@ -37,10 +37,10 @@ use Rattle.qc_state.specs.declared.trace.Step.{Step}
 use Rattle.qc_state.specs.Acks.{is_ack}
 use Rattle.qc_laws.specs.EndLaws.{Ends}
 use Rattle.qc_state.specs.Headline.{deeds_of}
-use Rattle.qc_state.specs.Keys.{NewKeys, failure_counted, has_keys, keys_given, epoch_in}
+use Rattle.qc_state.specs.Keys.{NewKeys, failure_counted, has_keys, keys_given, epoch_in, key_acked, key_discarded, key_opened}
 use Rattle.qc_state.specs.Life.{connected_reported, data_ready, drained_reported, identifiers_wanted, is_open, life_closed, life_drained, life_established, life_raised, lost_reported, ready_reported, reason_given, token_learned, notice_reported, notices_reported, all_heard_reported, heard_reported}
 use Rattle.qc_state.specs.Lower.{bytes_came, flight_dropped, packet_flown, packets_settled, session_read, session_wrote, timer_fired, limits_learned, frame_handed, streams_closed, streams_stepped, event_told, events_told, datagrams_stepped, frames_sealed, ids_stepped}
-use Rattle.qc_state.specs.Moves.{Accept, Ack, AreNext, Ask, Begin, Clock, Confirm, PeerClosesToo, Establish, Fail, Fire, Forget, Give, PeerCloses, MayMove, Move, Owe, Raise, Release, ReportConnected, ReportDrained, ReportLost, ReportReady, ReportNotice, ReportNotices, Seal, Shut, Take, Write, arrival_of, keys_move, life_move, lower_move, paths_move, state_move, waiting_move, ReportStream, ReportStreams, ReportHeard, ReportAllHeard, Hand, Insert, Switch, Retire}
+use Rattle.qc_state.specs.Moves.{Accept, Ack, AreNext, Ask, Begin, Clock, Confirm, PeerClosesToo, Establish, Fail, Fire, Forget, Give, PeerCloses, MayMove, Move, Owe, Raise, Release, ReportConnected, ReportDrained, ReportLost, ReportReady, ReportNotice, ReportNotices, Seal, Shut, Take, Write, arrival_of, keys_move, life_move, lower_move, paths_move, state_move, waiting_move, ReportStream, ReportStreams, ReportHeard, ReportAllHeard, Hand, Insert, Switch, Retire, Unseal, Discard}
 use Rattle.qc_state.specs.Numbers.{next_number}
 use Rattle.qc_state.specs.Numbers as numbers
 use Rattle.qc_state.specs.Offers.{packet_begun}
@@ -58,6 +58,7 @@ use Rattle.qc_laws.proofs.KnownMoves.{IsFiredBy, IsKnownMove, IsSettledBy}
 use Rattle.qc_state.proofs.Probed.{begun_holds, begun_streams}
 use Rattle.qc_state.proofs.OpenPackets.{IsUnacked}
 use Rattle.qc_laws.proofs.RecoveryFold.{Covers, covers_next, covers_same, fold_from, input_part, kept_same, recovers_by}
+use Rattle.qc_state.proofs.KeySteps.{acked_moves, discarded_moves, opened_moves, same_keys}
 use Rattle.qc_state.proofs.Transmitted.{IsSealable}
 use Rattle.qc_laws.proofs.CryptoBuffers.{More, crypto_more_holds, crypto_more_sent, lost_in_more, more_here, more_next, more_same}
 use Rattle.qc_laws.proofs.CryptoPlaces.{FiresIn, ack_flight, ack_other, acked_crypto, apart_lower, apart_values, bundled_spaces, came_crypto, dropped_highest, dropped_keys, failed_keys, fire_kept, fired_flight, flown_lower, given_above, given_keys, given_open, here_values, in_other, in_same, left_counts, more_bytes, narrow, none_written, not_above, put_again, put_crypto, put_other, rank_other, same_or, sealed_apart, sealed_stream, settled_bytes, settled_other, settled_stream, used_highest, used_keys, written_same}
@@ -92,7 +93,7 @@ module _ {t : Types} where
   }
 
   -- the moves that leave the bytes, what is in flight, and the keys
-  abbrev IsStill : Move t → Type 0
+  abbrev pub IsStill : Move t → Type 0
   IsStill (Clock time) = ⊥
   IsStill (Take id fs) = ⊥
   IsStill (Seal time form n size fs) = ⊥
@@ -123,7 +124,7 @@ module _ {t : Types} where
   still_crypto (Begin space opens) s id h = absurd h
   still_crypto _ s id h = refl
 
-  still_lower : (x : Move t) (s : View t) → IsStill x → (lower_move x s).recovery ≡ s.lower.recovery
+  pub still_lower : (x : Move t) (s : View t) → IsStill x → (lower_move x s).recovery ≡ s.lower.recovery
   unfolding lower_move bytes_came session_read limits_learned frame_handed streams_closed streams_stepped datagrams_stepped event_told events_told frames_sealed ids_stepped
   still_lower (Clock time) s h = absurd h
   still_lower (Take space fs) s h = absurd h
@@ -145,6 +146,8 @@ module _ {t : Types} where
   still_highest (Fire after) s h = absurd h
   still_highest (Write bytes keys session) s h = absurd h
   still_highest (Begin space opens) s h = absurd h
+  still_highest (Unseal time n which fresh session) s h = (opened_moves s.keys which n fresh).highest
+  still_highest Discard s h = (discarded_moves s.keys).highest
   still_highest _ s h = refl
 
   still_keys : (x : Move t) (s : View t) (id : SpaceId) → IsStill x → has_keys (keys_move x s) id ≡ true → has_keys s.keys id ≡ true
@@ -158,10 +161,12 @@ module _ {t : Types} where
   still_keys (Fire after) s id h k = absurd h
   still_keys (Write bytes keys session) s id h k = absurd h
   still_keys (Begin space opens) s id h k = absurd h
+  still_keys (Unseal time n which fresh session) s id h k = sym (same_keys s.keys (key_opened s.keys which n fresh) (opened_moves s.keys which n fresh) id) ∙ k
+  still_keys Discard s id h k = sym (same_keys s.keys (key_discarded s.keys) (discarded_moves s.keys) id) ∙ k
   still_keys _ s id h k = k
 
   -- a life that is open was open
-  move_open : (m : Meaning t) (x : Move t) (s : View t) → IsKnownMove m x s → MayMove x s → is_open (life_move x s).state ≡ true → is_open s.life.state ≡ true
+  pub move_open : (m : Meaning t) (x : Move t) (s : View t) → IsKnownMove m x s → MayMove x s → is_open (life_move x s).state ≡ true → is_open s.life.state ≡ true
   unfolding life_move MayMove life_closed life_drained data_ready life_established token_learned identifiers_wanted life_raised reason_given ready_reported connected_reported heard_reported all_heard_reported lost_reported notice_reported notices_reported drained_reported
   move_open m (Shut time close) s k may h = cc
   move_open m (PeerCloses time) s k may h = cc
@@ -223,12 +228,14 @@ module _ {t : Types} where
       let more : More (crypto_of id s) (lost_in w after.lost).crypto = subst (λ (b : Buffer). More b (lost_in w after.lost).crypto) as_was (lost_in_more w after.lost) in
       let once : IsPermutation (flight_of id s) (after.acked ++ (after.lost ++ (recovery.space_of id after.recovery).flight)) =
       subst (λ (a : After t.C). IsPermutation (flight_of id s) (a.acked ++ (a.lost ++ (recovery.space_of id a.recovery).flight))) (sym settled.is) (ack_flight m.control _ id _ _ _ _ _ s.lower.recovery s.paths.current.kept) in
-      subst (λ (b : Buffer). CryptoHolds id (before ++ after.acked) s.keys.highest (is_open s.life.state) (has_keys s.keys id) b (recovery.space_of id after.recovery).flight)
+      let keys = acked_moves s.keys id n in
+      subst (λ (b : Buffer). CryptoHolds id (before ++ after.acked) (key_acked s.keys id n).highest (is_open s.life.state) (has_keys (key_acked s.keys id n) id) b (recovery.space_of id after.recovery).flight)
       (sym (settled_stream id s.waiting.spaces after.acked after.lost))
       (record {
         sent = subst (λ (k : ℕ). k ≤ (lost_in w after.lost).crypto.written) (sym more.sent) (subst (λ (k : ℕ). (crypto_of id s).sent ≤ k) (sym more.written) h.sent);
-        above = λ e. more.written ∙ h.above e;
-        holds = λ o k. settled_bytes before after.acked after.lost (flight_of id s) (recovery.space_of id after.recovery).flight w once (subst (λ (b : Buffer). BytesHold before b (flight_of id s)) (sym as_was) (h.holds o k));
+        above = λ e. more.written ∙ h.above (ap (λ (x : SpaceId). is_below x id) (sym keys.highest) ∙ e);
+        holds = λ o k. settled_bytes before after.acked after.lost (flight_of id s) (recovery.space_of id after.recovery).flight w once
+            (subst (λ (b : Buffer). BytesHold before b (flight_of id s)) (sym as_was) (h.holds o (sym (same_keys s.keys (key_acked s.keys id n) keys id) ∙ k)));
       })
 
   -- in another one
@@ -237,8 +244,8 @@ module _ {t : Types} where
   ack_apart m space n after s id before settled other h = same_holds id before s (state_move (Ack space n after) s) (record {
     more = more_same (crypto_of id s) _ (settled_other id space s.waiting.spaces after.acked after.lost other);
     flight = ap (λ (a : After t.C). (recovery.space_of id a.recovery).flight) settled.is ∙ ack_other m.control _ id space _ _ _ _ _ s.lower.recovery s.paths.current.kept other;
-    highest = refl;
-    keys = λ k. k;
+    highest = (acked_moves s.keys space n).highest;
+    keys = λ k. sym (same_keys s.keys (key_acked s.keys space n) (acked_moves s.keys space n) id) ∙ k;
     opened = λ o. o;
   }) h
 
@@ -353,7 +360,7 @@ owed_acked : (C : Type 0) (id : SpaceId) (owed : Bool) (space : SpaceId) (n : �
 owed_acked C id true space n packet = refl
 owed_acked C id false space n packet = refl
 
-unowed_by : (opened owed : Bool) → (owed ≡ true → opened ≡ false) → opened ≡ true → owed ≡ false
+pub unowed_by : (opened owed : Bool) → (owed ≡ true → opened ≡ false) → opened ≡ true → owed ≡ false
 unowed_by opened true h o = let shut : opened ≡ false = h refl in absurd cc
 unowed_by opened false h o = refl
 

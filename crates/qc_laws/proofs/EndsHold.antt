@@ -3,6 +3,7 @@ use Rattle.std.proofs.Common.{◌≡◌, ℕ, ◌+◌, ◌<◌, List, [], ◌∷
 use Rattle.std.specs.Prelude.{◌&&◌, is_none, is_some}
 use Rattle.std.specs.List.{list_any}
 use Rattle.qc_base.specs.declared.side.SpaceId.{SpaceId}
+use Rattle.qc_base.specs.declared.side.SpaceId.TheVariants.{«Data»}
 use Rattle.qc_frame.specs.Frame.{FrameValue}
 use Rattle.qc_frame.specs.FrameSpelling.{elicits}
 use Rattle.qc_recovery.specs.declared.calls.Fired.{Fired}
@@ -19,15 +20,16 @@ use Rattle.qc_state.specs.declared.waiting.Waiting.{Waiting}
 use Rattle.qc_state.specs.Acks.{is_ack}
 use Rattle.qc_laws.specs.EndLaws.{EndHolds, Ends, NoTimer}
 use Rattle.qc_state.specs.Forms.{number_space}
-use Rattle.qc_state.specs.Life.{connected_reported, data_ready, drained_reported, identifiers_wanted, is_closed, is_drained, is_open, life_closed, life_drained, life_established, life_raised, lost_reported, rank_of, ready_reported, reason_given, token_learned, notice_reported, notices_reported, all_heard_reported}
-use Rattle.qc_state.specs.Moves.{Probe, Accept, Ack, Arm, Ask, Begin, Clock, Come, Confirm, PeerClosesToo, Enter, Establish, Expect, Fail, Finish, Fire, Fix, Forget, Give, Hear, IsArmed, Learn, PeerCloses, MayMove, Move, Owe, Pace, Raise, Read, Ready, Release, ReportConnected, ReportDrained, ReportLost, ReportReady, ReportNotice, ReportNotices, Say, Seal, Shut, Skip, Take, Tell, Token, Want, Write, keys_move, life_move, move_to, numbers_move, state_move, timers_move, waiting_move, Call, Hand, ReportStream, ReportStreams, Post, ReportHeard, ReportAllHeard, Insert, Switch, Retire, Issue, Outlive, Hold, Spend}
+use Rattle.qc_state.specs.Life.{connected_reported, data_ready, drained_reported, identifiers_wanted, is_closed, is_drained, is_open, life_closed, life_drained, life_established, life_raised, lost_reported, rank_of, ready_reported, reason_given, token_learned, notice_reported, notices_reported, all_heard_reported, is_over}
+use Rattle.qc_state.specs.Keys.{ring_of, sets_floor}
+use Rattle.qc_state.specs.Moves.{Probe, Accept, Ack, Arm, Ask, Begin, Clock, Come, Confirm, PeerClosesToo, Enter, Establish, Expect, Fail, Finish, Fire, Fix, Forget, Give, Hear, IsArmed, Learn, PeerCloses, MayMove, Move, Owe, Pace, Raise, Read, Ready, Release, ReportConnected, ReportDrained, ReportLost, ReportReady, ReportNotice, ReportNotices, Say, Seal, Shut, Skip, Take, Tell, Token, Want, Write, keys_move, life_move, move_to, numbers_move, state_move, timers_move, waiting_move, Call, Hand, ReportStream, ReportStreams, Post, ReportHeard, ReportAllHeard, Insert, Switch, Retire, Issue, Outlive, Hold, Spend, Discard, Unseal}
 use Rattle.qc_state.specs.Numbers.{next_number}
 use Rattle.qc_state.specs.Offers.{packet_begun}
 use Rattle.qc_state.specs.Recovering.{loss_time, probe_timeout_now}
 use Rattle.qc_state.specs.Run.{IsStep, Run, began, called, input_after, reported, step_after, time_of}
 use Rattle.qc_state.specs.Sending.{packet_size}
 use Rattle.qc_state.specs.Setup.{idle_limit_now}
-use Rattle.qc_state.specs.Timers.{clock_set, timers_acking, timers_armed, timers_closing, timers_held, timers_paced, timers_released, timers_sealed, timers_stopped, timers_issued, timers_outlived}
+use Rattle.qc_state.specs.Timers.{clock_set, timers_acking, timers_armed, timers_closing, timers_held, timers_paced, timers_released, timers_sealed, timers_stopped, timers_issued, timers_outlived, timers_keeping, timers_discarded}
 use Rattle.qc_state.specs.Types.{Types, Meaning}
 use Rattle.qc_state.specs.View.{View, At}
 use Rattle.qc_state.specs.Waiting.{ack_released, bundle_next, close_begun, crypto_written, done_asked, fired_in, packet_came, packet_told, packets_acked, frames_again, packets_lost, ping_asked, probe_spent, probes_added, space_left, waiting_without}
@@ -114,6 +116,14 @@ open_holds l v v' o opened h = record {
   owed = h.owed;
 }
 
+-- a life that isn't over hasn't drained
+not_drained : (l : State) → is_over l ≡ false → is_drained l ≡ false
+not_drained state.Handshake h = refl
+not_drained state.Established h = refl
+not_drained state.Closed h = refl
+not_drained state.Draining h = refl
+not_drained state.Drained h = cc
+
 -- where no timer stands, none does once one of them is set to no time, or the clock is
 none_armed : (v : Timers) (due : Option ℕ) → due ≡ None → NoTimer v → NoTimer (timers_armed v due)
 unfolding timers_armed
@@ -122,6 +132,16 @@ none_armed v due is h = record { loss_detection = is; idle = h.idle; close = h.c
 none_paced : (v : Timers) → NoTimer v → NoTimer (timers_paced v)
 unfolding timers_paced
 none_paced v h = record { loss_detection = h.loss_detection; idle = h.idle; close = h.close; key_discard = h.key_discard; path_validation = h.path_validation; keep_alive = h.keep_alive; pacing = refl; push_new_cid = h.push_new_cid; max_ack_delay = h.max_ack_delay }
+
+none_discarded : (v : Timers) → NoTimer v → NoTimer (timers_discarded v)
+unfolding timers_discarded
+none_discarded v h = record { loss_detection = h.loss_detection; idle = h.idle; close = h.close; key_discard = refl; path_validation = h.path_validation; keep_alive = h.keep_alive; pacing = h.pacing; push_new_cid = h.push_new_cid; max_ack_delay = h.max_ack_delay }
+
+-- old keys that are kept for some time set a timer of their own, where the connection isn't over
+kept_holds : (b : Bool) (l : State) (v : Timers) (probe time : ℕ) (o : Bool) → is_drained l ≡ false → EndHolds l v o → EndHolds l (if b then timers_keeping v probe time else v) o
+unfolding timers_keeping
+kept_holds true l v probe time o alive h = record { closing = h.closing; ended = λ d. absurd cc; owed = h.owed }
+kept_holds false l v probe time o alive h = h
 
 none_released : (v : Timers) → NoTimer v → NoTimer (timers_released v)
 unfolding timers_released
@@ -178,7 +198,7 @@ module _ {t : Types} where
       }
 
   move_keeps : (x : Move t) → IsMade x → (a : At t) → MayMove x a.state → Keeps a (move_to x a)
-  unfolding MayMove move_to state_move life_move timers_move waiting_move ping_asked waiting_without space_left packet_came packets_lost packets_acked ack_released crypto_written done_asked life_established life_drained life_closed life_raised data_ready token_learned identifiers_wanted reason_given timers_armed timers_paced timers_held timers_released timers_outlived timers_stopped timers_closing close_begun
+  unfolding MayMove move_to state_move life_move timers_move waiting_move ping_asked waiting_without space_left packet_came packets_lost packets_acked ack_released crypto_written done_asked life_established life_drained life_closed life_raised data_ready token_learned identifiers_wanted reason_given timers_armed timers_paced timers_held timers_released timers_outlived timers_stopped timers_closing timers_discarded close_begun
   move_keeps (Clock time) r a may = absurd may
   move_keeps (Ask id) r a may = λ h. h
   move_keeps (Take id fs) r a may = λ h. h
@@ -187,6 +207,8 @@ module _ {t : Types} where
   move_keeps (Enter id n v) r a may = λ h. h
   move_keeps (Expect token) r a may = λ h. h
   move_keeps Fail r a may = λ h. h
+  move_keeps (Unseal time n which fresh session) r a may = λ h. kept_holds (sets_floor which fresh (ring_of a.state.keys)) a.state.life.state a.state.timers (probe_timeout_now a.state «Data») time a.state.waiting.close_owed (not_drained a.state.life.state may) h
+  move_keeps Discard r a may = λ h. record { closing = h.closing; ended = λ d. none_discarded a.state.timers (h.ended d); owed = h.owed }
   move_keeps (Accept time id n e g v) r a may = λ h. open_holds a.state.life.state a.state.timers _ a.state.waiting.close_owed may.2 h
   move_keeps (Fix cid) r a may = λ h. h
   move_keeps (Hear bytes) r a may = λ h. h

@@ -21,7 +21,7 @@ use Rattle.qc_state.specs.declared.life.ConnectionError.TheVariants as lost
 use Rattle.qc_state.specs.declared.lower.Lower.{Lower}
 use Rattle.qc_state.specs.declared.numbers.Numbers.{Numbers}
 use Rattle.qc_state.specs.declared.paths.Paths.{Paths}
-use Rattle.qc_state.specs.Keys.{keys_dropped}
+use Rattle.qc_state.specs.Keys.{keys_dropped, key_acked}
 use Rattle.qc_state.specs.Life.{is_established, is_open, data_ready}
 use Rattle.qc_state.specs.Lower.{bytes_came, datagrams_stepped, flight_dropped, frame_handed, handed_stop, packets_settled, ready_bytes, session_read, stream_of, streams_stepped, ids_stepped}
 use Rattle.qc_state.specs.Moves.{Move, Ack, Arm, Come, Confirm, Establish, Forget, Give, Learn, PeerCloses, Owe, Read, Ready, Shut, Tell, Token, Want, Write, MayMove, armed_after, armed_with, deeds_move, keys_move, life_move, lower_move, move_to, numbers_move, paths_move, setup_move, state_move, Hand, told_to_streams, Insert, Switch, Retire}
@@ -57,7 +57,7 @@ use Rattle.rand_core.specs.Stream.{Stream}
 
 -- ---- lists of deeds
 
-pieces_append : (ds es : List Did) → pieces_in (ds ++ es) ≡ pieces_in ds ++ pieces_in es
+pub pieces_append : (ds es : List Did) → pieces_in (ds ++ es) ≡ pieces_in ds ++ pieces_in es
 pieces_append [] es = refl
 pieces_append (did.Piece space number v ∷ ds) es = ap (λ (l : List Did). did.Piece space number v ∷ l) (pieces_append ds es)
 pieces_append (did.Sealed space number epoch early fs ∷ ds) es = pieces_append ds es
@@ -234,7 +234,7 @@ module _ {t : Types} where
   unfolding state_move numbers_move keys_move life_move paths_move setup_move lower_move
   along_ack id n after v w h = record {
     numbers = ap (λ (x : Numbers). number_acked x id n) h.numbers;
-    keys = h.keys;
+    keys = ap (λ (k : KeyGroup t.H t.P). key_acked k id n) h.keys;
     life = h.life;
     paths = ap (λ (p : Paths t.C). path_kept p after.path) h.paths;
     setup = h.setup;

@@ -8,10 +8,12 @@ use Rattle.std.specs.declared.net.SocketAddr.{SocketAddr}
 use Rattle.qc_base.specs.declared.side.Side.TheVariants.{Server}
 use Rattle.qc_base.specs.declared.side.SpaceId.{SpaceId}
 use Rattle.qc_base.specs.declared.side.SpaceId.TheVariants as space
+use Rattle.qc_base.specs.declared.transport_error.TransportError.{TransportError}
 use Rattle.qc_frame.specs.Payload.{items_of}
 use Rattle.qc_header.specs.HeaderGrammar.{DatagramItem}
 use Rattle.qc_header.specs.Piece.{Piece, space_of}
 use Rattle.qc_header.specs.Pieces.{pieces_of}
+use Rattle.qc_rings.specs.declared.which.Which.{Which}
 use Rattle.qc_state.specs.declared.coming.Coming.{Coming}
 use Rattle.qc_state.specs.declared.deeds.Did.{Did}
 use Rattle.qc_state.specs.declared.deeds.Did.TheVariants as did
@@ -24,7 +26,7 @@ use Rattle.qc_state.specs.declared.life.ConnectionError.{ConnectionError}
 use Rattle.qc_state.specs.declared.life.ConnectionError.TheVariants as lost
 use Rattle.qc_state.specs.declared.life.State.TheVariants as state
 use Rattle.qc_state.specs.declared.opening.Opening.{Opening}
-use Rattle.qc_state.specs.declared.opening.Opening.TheVariants.{Unreadable, Unopened, Reserved, Opened}
+use Rattle.qc_state.specs.declared.opening.Opening.TheVariants.{Unreadable, Unopened, Reserved, Untimely, Opened}
 use Rattle.qc_state.specs.declared.paths.Paths.{Paths}
 use Rattle.qc_state.specs.declared.timers.Timers.{Timers}
 use Rattle.qc_state.specs.declared.trace.Step.{Step}
@@ -32,15 +34,16 @@ use Rattle.qc_state.specs.declared.transmit.TheConstants.{DATAGRAM_SIZE}
 use Rattle.qc_state.specs.Headline.{deeds_of, is_harmless, is_datagram, OnlyCounts, Harmless}
 use Rattle.qc_state.specs.Keys.{fails_too_often, failure_counted}
 use Rattle.qc_state.specs.Life.{is_handshake, is_over}
-use Rattle.qc_state.specs.Moves.{Move, Accept, Clock, PeerClosesToo, Enter, Expect, Fail, Hear, Owe, Raise, Tell, deeds_move, keys_move, life_move, lower_move, move_to, numbers_move, paths_move, setup_move, state_move, timers_move, waiting_move, armed_after, armed_with}
+use Rattle.qc_state.specs.Moves.{Move, Accept, Clock, PeerClosesToo, Enter, Expect, Fail, Hear, Owe, Raise, Tell, Unseal, deeds_move, keys_move, life_move, lower_move, move_to, numbers_move, paths_move, setup_move, state_move, timers_move, waiting_move, armed_after, armed_with}
 use Rattle.qc_state.specs.Opening.{opening_of}
 use Rattle.qc_state.specs.Paths.{is_blocked, path_received, same_address}
 use Rattle.qc_state.specs.Receiving.{accepted_after, admitted_after, counted_after, cut_of, datagram_after, failed_after, first_after, first_token, fixed_after, has_first_ids, heard_after, is_close_item, is_eliciting_item, is_readable, lets_in, opened_token, opening_after, piece_after, piece_told, pieces_after, read_for_close, received_after, signs_of, token_in_first, token_in_items, verdict_after}
 use Rattle.qc_state.specs.Run.{IsStep, Run, began, called, input_after, reported, step_after}
 use Rattle.qc_state.specs.Setup.{is_first_awaited, token_expected}
-use Rattle.qc_state.specs.Stopping.{key_limit_error, killed_after, stopped_after, violation_at}
+use Rattle.qc_state.specs.Stopping.{key_limit_error, killed_after, stopped_after, update_error, violation_at}
 use Rattle.qc_state.specs.Timers.{clock_set, timers_armed}
 use Rattle.qc_state.specs.Types.{Types, Meaning}
+use Rattle.qc_state.specs.Updating.{fresh_by, session_by, unsealed_after}
 use Rattle.qc_state.specs.Verdicts.{verdict_of}
 use Rattle.qc_state.specs.View.{View, At}
 use Rattle.qc_state.specs.Recovering.{loss_time}
@@ -207,6 +210,7 @@ module _ {t : Types} where
       deed_harms verdict.Ignored k = cc
       deed_harms verdict.Failure k = cc
       deed_harms verdict.BadBits k = cc
+      deed_harms verdict.BadUpdate k = cc
       deed_harms verdict.Seen k = refl
       deed_harms verdict.ReadForClose k = refl
       deed_harms verdict.NumberOnly k = refl
@@ -220,7 +224,7 @@ module _ {t : Types} where
       let e : Bool = list_any is_eliciting_item (items_of payload) in
       let b : At t = accepted_after coming id number e spin verdict.Admitted a in
       let c : At t = fixed_after id source b in
-      let o : OpenPacket = record { coming = coming; space = id; spin = spin; source = source; token = []; number = number; payload = payload } in
+      let o : OpenPacket = record { coming = coming; space = id; spin = spin; which = None; source = source; token = []; number = number; payload = payload } in
       harmed_next a b _ (harmed_accepted coming id number e spin verdict.Admitted a refl)
       (grown_next b c _ (holds_fixed m o Grown grown_here grown_next (λ x d r k. grown_move x d) b)
       (holds_payload m o Grown grown_here grown_next (λ x d r k. grown_move x d) c))
@@ -241,6 +245,7 @@ module _ {t : Types} where
   harmed_verdict m coming id spin source number payload verdict.Ignored a h = cc
   harmed_verdict m coming id spin source number payload verdict.Failure a h = cc
   harmed_verdict m coming id spin source number payload verdict.BadBits a h = cc
+  harmed_verdict m coming id spin source number payload verdict.BadUpdate a h = cc
   harmed_verdict m coming id spin source number payload verdict.Seen a h = harmed_move (Tell (did.Piece (Some id) (Some number) verdict.Seen)) a refl
   harmed_verdict m coming id spin source number payload verdict.ReadForClose a h = harmed_closing id number payload a
   harmed_verdict m coming id spin source number payload verdict.NumberOnly a h = harmed_move (Enter id number verdict.NumberOnly) a refl
@@ -252,14 +257,25 @@ module _ {t : Types} where
   harmed_received m coming id spin source token number payload a =
       harmed_verdict m coming id spin source number payload (verdict_of a.state id source token number) a (opened_by_row _ _ _ _)
 
+  -- so it does behind its step of the ring
+  unsealed_grown : (m : Meaning t) (time : ℕ) (which : Option Which) (number : ℕ) (a : At t) → Grown a (unsealed_after m time which number a)
+  unsealed_grown m time None number a = grown_here a
+  unsealed_grown m time (Some which) number a = grown_move (Unseal time number which (fresh_by m which a.state) (session_by m which a.state.lower.session)) a
+
+  harmed_opened : (m : Meaning t) (coming : Coming) (id : SpaceId) (spin : Bool) (source token : List ℕ) (which : Option Which) (number : ℕ) (payload : List ℕ) (a : At t) →
+      Harmed a (received_after m coming id spin source token number payload (unsealed_after m coming.time which number a))
+  harmed_opened m coming id spin source token which number payload a =
+      let b : At t = unsealed_after m coming.time which number a in
+      next_harmed a b _ (unsealed_grown m coming.time which number a) (harmed_received m coming id spin source token number payload b)
+
   -- ---- the packets of a datagram
 
-  -- a packet whose reserved bits aren't 0
-  harmed_reserved : (time : ℕ) (id : Option SpaceId) (number : ℕ) (a : At t) → Harmed a (stopped_after time (violation_at None) (piece_told id (Some number) verdict.BadBits a))
+  -- a packet whose reserved bits aren't 0, or which shows an update that its sender wasn't allowed to make: this is told, with this verdict
+  harmed_refused : (time : ℕ) (d : Did) (error : TransportError) (a : At t) → list_all is_harmless (deeds_move (Tell d) a.state) ≡ false → Harmed a (stopped_after time error (move_to (Tell d) a))
   unfolding deeds_move
-  harmed_reserved time id number a =
-      let b : At t = piece_told id (Some number) verdict.BadBits a in
-      harmed_next a b _ (harmed_move (Tell (did.Piece id (Some number) verdict.BadBits)) a refl) (holds_stopped Grown grown_here grown_next (λ x r c k. grown_move x c) time (violation_at None) b)
+  harmed_refused time d error a told =
+      let b : At t = move_to (Tell d) a in
+      harmed_next a b _ (harmed_move (Tell d) a told) (holds_stopped Grown grown_here grown_next (λ x r c k. grown_move x c) time error b)
 
   -- a packet that didn't open, and ends the connection
   harmed_killed : (why : ConnectionError) (a : At t) → Harmed a (killed_after why a)
@@ -283,11 +299,13 @@ module _ {t : Types} where
 
   -- a packet by what came of taking its protection off
   tame_opening : (m : Meaning t) (coming : Coming) (id : Option SpaceId) (o : Opening) (a : At t) → Tame a (opening_after m coming id o a)
+  unfolding deeds_move
   tame_opening m coming id Unreadable a = tame_move (Tell (did.Piece id None verdict.Ignored)) a (same_tell (did.Piece id None verdict.Ignored) a.state)
   tame_opening m coming id Unopened a = tame_failed id a
-  tame_opening m coming id (Reserved number) a = harmed_tame a _ (harmed_reserved coming.time id number a)
-  tame_opening m coming (Some id) (Opened source token spin number payload) a = harmed_tame a _ (harmed_received m coming id spin source token number payload a)
-  tame_opening m coming None (Opened source token spin number payload) a = tame_move (Tell (did.Piece None None verdict.Ignored)) a (same_tell (did.Piece None None verdict.Ignored) a.state)
+  tame_opening m coming id (Reserved number) a = harmed_tame a _ (harmed_refused coming.time (did.Piece id (Some number) verdict.BadBits) (violation_at None) a refl)
+  tame_opening m coming id (Untimely number) a = harmed_tame a _ (harmed_refused coming.time (did.Piece id (Some number) verdict.BadUpdate) update_error a refl)
+  tame_opening m coming (Some id) (Opened source token spin which number payload) a = harmed_tame a _ (harmed_opened m coming id spin source token which number payload a)
+  tame_opening m coming None (Opened source token spin which number payload) a = tame_move (Tell (did.Piece None None verdict.Ignored)) a (same_tell (did.Piece None None verdict.Ignored) a.state)
 
   -- a packet, which is ignored where the connection is over
   piece_by : (m : Meaning t) (coming : Coming) (p : Piece) (a : At t) (b : Bool) →
@@ -351,11 +369,12 @@ module _ {t : Types} where
 
   -- a packet that opened, where its form has a space
   harmed_opening : (m : Meaning t) (coming : Coming) (id : Option SpaceId) (this : SpaceId) (o : Opening) (token : List ℕ) (a : At t) → id ≡ Some this → opened_token o ≡ Some token → Harmed a (opening_after m coming id o a)
-  harmed_opening m coming (Some id) this (Opened source other spin number payload) token a e h = harmed_received m coming id spin source other number payload a
-  harmed_opening m coming None this (Opened source other spin number payload) token a e h = cc
+  harmed_opening m coming (Some id) this (Opened source other spin which number payload) token a e h = harmed_opened m coming id spin source other which number payload a
+  harmed_opening m coming None this (Opened source other spin which number payload) token a e h = cc
   harmed_opening m coming id this Unreadable token a e h = cc
   harmed_opening m coming id this Unopened token a e h = cc
   harmed_opening m coming id this (Reserved number) token a e h = cc
+  harmed_opening m coming id this (Untimely number) token a e h = cc
 
   harmed_piece : (m : Meaning t) (coming : Coming) (p : Piece) (token : List ℕ) (a : At t) → is_over a.state.life.state ≡ false → space_of p.header ≡ Some space.Initial → opened_token (opening_of m a.state p) ≡ Some token → Harmed a (piece_after m coming p a)
   unfolding piece_after

@@ -46,7 +46,7 @@ use Rattle.qc_state.proofs.Transmitted.{IsSealable}
 use Rattle.qc_laws.specs.IdLaws.{AreCame, FoldsIds, given_by, given_to_ids, is_came, is_given, is_sealed}
 use Rattle.qc_laws.specs.StreamsLaws.{frames_sealed}
 use Rattle.qc_laws.proofs.IdsHold.{flown_ids}
-use Rattle.qc_laws.proofs.KnownMoves.{IsElsewhere, IsKnownMove, IsUncalled, known_other}
+use Rattle.qc_laws.proofs.KnownMoves.{IsElsewhere, IsKnownAbout, IsKnownMove, IsUncalled, known_about, known_other}
 use Rattle.qc_laws.proofs.StreamCalls.{called_input, handed_told}
 use Rattle.qc_laws.proofs.StreamsSealed.{frames_append}
 
@@ -222,7 +222,7 @@ module _ {t : Types} where
   steps_by (Learn p) s = learned_cids p
   steps_by _ s = []
 
-  pub moved_ids : (m : Meaning t) (x : Move t) (s : View t) → IsKnownMove m x s → (lower_move x s).ids ≡ after (steps_by x s) s.lower.ids
+  pub moved_ids : (m : Meaning t) (x : Move t) (s : View t) → IsKnownAbout m x s → (lower_move x s).ids ≡ after (steps_by x s) s.lower.ids
   unfolding lower_move ids_stepped streams_stepped datagrams_stepped bytes_came session_read session_wrote flight_dropped packets_settled timer_fired frame_handed streams_closed limits_learned after
   moved_ids m (Take id fs) s k = absurd k
   moved_ids m (Seal time form n size fs) s k = absurd k
@@ -284,7 +284,7 @@ module _ {t : Types} where
     since = deeds_move x a.state;
     appended = told_appends a.did (deeds_move x a.state);
     steps = steps_by x a.state;
-    leads = moved_ids m x a.state k;
+    leads = moved_ids m x a.state (known_about m x a.state k);
     are = moved_are m x a.state k u may;
   }
 

@@ -105,6 +105,7 @@ pub enters_accepts : (v : Verdict) → enters v ≡ false → accepts v ≡ fals
 enters_accepts verdict.Ignored h = refl
 enters_accepts verdict.Failure h = refl
 enters_accepts verdict.BadBits h = refl
+enters_accepts verdict.BadUpdate h = refl
 enters_accepts verdict.Seen h = refl
 enters_accepts verdict.ReadForClose h = refl
 enters_accepts verdict.NumberOnly h = refl

@@ -8,6 +8,7 @@ use Rattle.qc_base.specs.declared.side.SpaceId.{SpaceId}
 use Rattle.qc_base.specs.declared.side.SpaceId.TheVariants.{Initial, Handshake, «Data»}
 use Rattle.qc_frame.specs.Frame.{FrameValue}
 use Rattle.qc_frame.specs.Payload.{items_of}
+use Rattle.qc_rings.specs.declared.which.Which.{Which}
 use Rattle.qc_state.specs.declared.form.Form.{Form}
 use Rattle.qc_state.specs.declared.form.Form.TheVariants as form
 use Rattle.qc_state.specs.declared.coming.Coming.{Coming}
@@ -22,15 +23,16 @@ use Rattle.qc_state.specs.declared.keys.KeyGroup.{KeyGroup}
 use Rattle.qc_state.specs.declared.keys.SpaceKeys.{SpaceKeys}
 use Rattle.qc_state.specs.declared.life.Close.{Close}
 use Rattle.qc_state.specs.declared.life.ConnectionError.{ConnectionError}
+use Rattle.qc_state.specs.declared.life.Life.{Life}
 use Rattle.qc_state.specs.declared.life.State.TheVariants as state
 use Rattle.qc_state.specs.declared.trace.Step.{Step}
 use Rattle.qc_state.specs.declared.transmit.Batch.{Batch}
 use Rattle.qc_state.specs.Forms.{number_space, is_early}
 use Rattle.qc_state.specs.Headline.{deeds_of}
 use Rattle.qc_laws.specs.InitialLaws.{LeavesInitial, NoneInitial, has_left, is_left, leaves_with, seals_initial}
-use Rattle.qc_state.specs.Keys.{NewKeys, NoKeys, HandshakeKeys, DataKeys, count_one, failure_counted, has_keys, key_used, keys_dropped, keys_given, epoch_in, form_in, has_keys_for}
+use Rattle.qc_state.specs.Keys.{NewKeys, NoKeys, HandshakeKeys, DataKeys, count_one, failure_counted, has_keys, key_used, keys_dropped, keys_given, epoch_in, form_in, has_keys_for, key_acked, key_discarded, key_opened}
 use Rattle.qc_state.specs.Life.{all_heard_reported, connected_reported, drained_reported, is_drained, is_open, is_over, life_raised, lost_reported, notice_reported, notices_reported, rank_of, ready_reported, reason_given}
-use Rattle.qc_state.specs.Moves.{Accept, Arm, Ask, Begin, PeerClosesToo, Enter, Establish, Expect, Fail, Finish, Forget, Give, Hold, IsTold, Learn, PeerCloses, MayMove, Move, Owe, Raise, Say, Seal, Shut, Skip, Spend, Take, Tell, Write, accepts, armed_with, deeds_move, keys_move, life_move, move_to, setup_move, state_move, Hand, Call, Post, Insert, Retire, Issue}
+use Rattle.qc_state.specs.Moves.{Accept, Arm, Ask, Begin, PeerClosesToo, Enter, Establish, Expect, Fail, Finish, Forget, Give, Hold, IsTold, Learn, PeerCloses, MayMove, Move, Owe, Raise, Say, Seal, Shut, Skip, Spend, Take, Tell, Write, accepts, armed_with, deeds_move, keys_move, life_move, move_to, setup_move, state_move, Hand, Call, Post, Insert, Retire, Issue, Unseal, Ack, Discard}
 use Rattle.qc_state.specs.Numbers.{is_skipped, next_number}
 use Rattle.qc_state.specs.Paths.{is_blocked}
 use Rattle.qc_state.specs.Receiving.{accepted_after, admitted_after, datagram_after, fixed_after, is_close_item, is_eliciting_item, read_for_close, received_after, signs_of, verdict_after}
@@ -40,17 +42,19 @@ use Rattle.qc_state.specs.Setup.{packet_drawn, parameters_known, token_expected,
 use Rattle.qc_state.specs.Stopping.{given_after, killed_after}
 use Rattle.qc_state.specs.Spaces.{is_space, space_of}
 use Rattle.qc_state.specs.Timeouts.{timeout_after}
+use Rattle.qc_state.specs.Updating.{fresh_by, session_by, unsealed_after}
 use Rattle.qc_state.specs.Types.{Types, Meaning}
 use Rattle.qc_state.specs.Verdicts.{verdict_of}
 use Rattle.qc_state.specs.View.{View, At}
 use Rattle.qc_state.proofs.Batches.{packet_made}
 use Rattle.qc_state.proofs.Expired.{IsTimed, holds_timeout}
-use Rattle.qc_state.proofs.OpenPackets.{holds_fixed, holds_packet, holds_payload, packet_received}
+use Rattle.qc_state.proofs.OpenPackets.{holds_fixed, holds_packet, holds_payload, packet_received, unsealed_life}
 use Rattle.qc_state.proofs.PacketMoves.{IsInPacket, OpenPacket}
 use Rattle.qc_state.proofs.ReceivedMoves.{IsOutside}
 use Rattle.qc_laws.proofs.Receives.{datagram_holds}
 use Rattle.qc_state.proofs.Telling.{Told, kernel, told_appends}
 use Rattle.qc_state.proofs.Transmitted.{IsPacketMove, IsSending, holds_ending, holds_packets, holds_spared, owing_keyed}
+use Rattle.qc_state.proofs.KeySteps.{acked_moves, discarded_moves, opened_moves, same_keys}
 use Rattle.qc_laws.proofs.CryptoPlaces.{given_open}
 use Rattle.qc_laws.proofs.InitialDeeds.{accepted_quiet, drained_high, either, high_drained, late_space, left_append, left_by_test, none_append, not_left, one_silent, opened_shook, or_first, or_second, piece_silent, sealed_initial, sealed_shakes, shaking_late, silent_append, silent_left, silent_none, SilentBut, tells_rank, test_of_left, told_silent}
 use Rattle.qc_laws.proofs.Told.{told_input}
@@ -109,6 +113,9 @@ module _ {t : Types} where
   move_gone (Seal time form n size fs) a h = key_gone a.state.keys form n h
   move_gone (Forget id) a h = dropped_gone a.state.keys id h
   move_gone Fail a h = failed_gone a.state.keys h
+  move_gone (Unseal time n which fresh session) a h = same_keys a.state.keys (key_opened a.state.keys which n fresh) (opened_moves a.state.keys which n fresh) Initial ∙ h
+  move_gone (Ack id n r) a h = same_keys a.state.keys (key_acked a.state.keys id n) (acked_moves a.state.keys id n) Initial ∙ h
+  move_gone Discard a h = same_keys a.state.keys (key_discarded a.state.keys) (discarded_moves a.state.keys) Initial ∙ h
   move_gone (Write bytes keys session) a h = given_gone a.state.keys keys h
   move_gone _ a h = h
 
@@ -295,6 +302,7 @@ module _ {t : Types} where
   verdict_leaves side m o verdict.Ignored a q = leaves_here side a
   verdict_leaves side m o verdict.Failure a q = leaves_here side a
   verdict_leaves side m o verdict.BadBits a q = leaves_here side a
+  verdict_leaves side m o verdict.BadUpdate a q = leaves_here side a
   verdict_leaves side m o verdict.Seen a q = move_leaves side (Tell (did.Piece (Some o.space) (Some o.number) verdict.Seen)) refl a
   verdict_leaves side m o verdict.ReadForClose a q =
       let b : At t = move_to (Enter o.space o.number verdict.ReadForClose) a in
@@ -303,12 +311,20 @@ module _ {t : Types} where
   verdict_leaves side m o verdict.AckOnly a q = quiet_leaves (o.space ≡ Handshake) side a _ q (λ shakes server. accepted_gone o false verdict.AckOnly a server shakes)
   verdict_leaves side m o verdict.Admitted a q = quiet_leaves (o.space ≡ Handshake) side a _ q (λ shakes server. admitted_gone m o a server shakes)
 
+  -- its step of the ring
+  unsealed_leaves : (side : Side) (m : Meaning t) (time : ℕ) (which : Option Which) (number : ℕ) (a : At t) → Leaves side a (unsealed_after m time which number a)
+  unsealed_leaves side m time None number a = leaves_here side a
+  unsealed_leaves side m time (Some which) number a = move_leaves side (Unseal time number which (fresh_by m which a.state) (session_by m which a.state.lower.session)) tt a
+
   packet_leaves : (side : Side) (m : Meaning t) (o : OpenPacket) (a : At t) → is_over a.state.life.state ≡ false → Leaves side a (packet_received m o a)
   unfolding received_after
   packet_leaves side m o a lively =
       let P : Type 0 = o.space ≡ Handshake in
-      verdict_leaves side m o (verdict_of a.state o.space o.source o.token o.number) a
-      (holds_packet m o (Quiet P) (quiet_here P) (quiet_next P) (λ x b h may. quiet_move P x (packet_quiet m o x b.state h may) b) a lively)
+      let b : At t = unsealed_after m o.coming.time o.which o.number a in
+      let plain : OpenPacket = record o { which = None } in
+      leaves_next side a b _ (unsealed_leaves side m o.coming.time o.which o.number a)
+      (verdict_leaves side m o (verdict_of b.state o.space o.source o.token o.number) b
+      (holds_packet m plain (Quiet P) (quiet_here P) (quiet_next P) (λ x c h may. quiet_move P x (packet_quiet m plain x c.state h may) c) b (ap (λ (l : Life). is_over l.state) (unsealed_life m o.coming.time o.number o.which a) ∙ lively)))
 
   datagram_leaves : (side : Side) (m : Meaning t) (coming : Coming) (bytes : List ℕ) (a : At t) → Leaves side a (datagram_after m coming bytes a)
   datagram_leaves side m coming bytes a =

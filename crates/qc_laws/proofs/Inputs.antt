@@ -9,7 +9,7 @@ use Rattle.qc_state.specs.declared.life.State.TheVariants.{Drained}
 use Rattle.qc_state.specs.Forms.{number_space}
 use Rattle.qc_state.specs.Headline.{is_datagram}
 use Rattle.qc_state.specs.Life.{is_open}
-use Rattle.qc_state.specs.Moves.{Probe, Move, MayMove, Arm, Ask, Begin, Clock, Finish, Fire, Forget, Give, Pace, Raise, Release, ReportConnected, ReportDrained, ReportLost, ReportReady, ReportNotice, ReportNotices, Say, Seal, Shut, Skip, Take, keys_move, life_move, move_to, numbers_move, state_move, Call, ReportStream, ReportStreams, Post, ReportHeard, ReportAllHeard, Issue, Outlive, Want, Hold, Spend}
+use Rattle.qc_state.specs.Moves.{Probe, Move, MayMove, Arm, Ask, Begin, Clock, Finish, Fire, Forget, Give, Pace, Raise, Release, ReportConnected, ReportDrained, ReportLost, ReportReady, ReportNotice, ReportNotices, Say, Seal, Shut, Skip, Take, keys_move, life_move, move_to, numbers_move, state_move, Call, ReportStream, ReportStreams, Post, ReportHeard, ReportAllHeard, Issue, Outlive, Want, Hold, Spend, Discard}
 use Rattle.qc_state.specs.Numbers.{next_number}
 use Rattle.qc_state.specs.Run.{IsAllowed, close_after, input_after, datagram_limit}
 use Rattle.qc_state.specs.Sending.{Choice, packet_size}
@@ -48,6 +48,7 @@ IsOwn (Forget id) = Unit {0}
 IsOwn (Fire after) = Unit {0}
 IsOwn (Arm at) = Unit {0}
 IsOwn Pace = Unit {0}
+IsOwn Discard = Unit {0}
 IsOwn Release = Unit {0}
 IsOwn (Begin id opens) = Unit {0}
 IsOwn Skip = Unit {0}
@@ -71,6 +72,7 @@ timed_own : {t : Types} (x : Move t) → IsTimed x → IsOwn x
 timed_own (Fire after) r = tt
 timed_own (Arm at) r = tt
 timed_own Pace r = tt
+timed_own Discard r = tt
 timed_own Release r = tt
 timed_own Outlive r = tt
 timed_own (Want time count) r = tt

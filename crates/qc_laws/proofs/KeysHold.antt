@@ -7,7 +7,11 @@ use Rattle.qc_base.specs.Time.{plus}
 use Rattle.qc_base.specs.declared.side.SpaceId.{SpaceId}
 use Rattle.qc_base.specs.declared.side.SpaceId.TheVariants.{Initial, Handshake, «Data»}
 use Rattle.qc_frame.specs.Frame.{FrameValue}
-use Rattle.qc_rings.specs.Keyed.{keyed_sealed}
+use Rattle.qc_rings.specs.Keyed.{keyed_acked, keyed_discarded, keyed_opened, keyed_sealed}
+use Rattle.qc_rings.specs.Ring.{after_discard, has_floor}
+use Rattle.qc_rings.specs.declared.which.Which.{Which}
+use Rattle.qc_rings.specs.declared.which.Which.TheVariants.{Current, Next, Previous}
+use Rattle.qc_state.specs.declared.keys.Fresh.{Fresh}
 use Rattle.qc_state.specs.declared.form.Form.{Form}
 use Rattle.qc_state.specs.declared.form.Form.TheVariants as form
 use Rattle.qc_state.specs.declared.input.Input.{Input}
@@ -19,16 +23,16 @@ use Rattle.qc_state.specs.declared.life.Close.{Close}
 use Rattle.qc_state.specs.declared.trace.Step.{Step}
 use Rattle.qc_state.specs.Forms.{number_space}
 use Rattle.qc_laws.specs.KeyLaws.{IsWithinLimit, KeysHold}
-use Rattle.qc_state.specs.Keys.{NewKeys, NoKeys, HandshakeKeys, DataKeys, count_one, failure_counted, key_used, keys_dropped, keys_given, plain_usage, reaches_limit, ring_usage, ring_used, usage_of}
+use Rattle.qc_state.specs.Keys.{NewKeys, NoKeys, HandshakeKeys, DataKeys, count_one, failure_counted, key_acked, key_discarded, key_opened, key_used, keys_dropped, keys_given, plain_usage, reaches_limit, ring_acked, ring_discarded, ring_opened, ring_usage, ring_used, usage_of}
 use Rattle.qc_state.specs.Life.{is_open}
-use Rattle.qc_state.specs.Moves.{Move, Ask, Fail, Forget, Seal, Shut, Take, Write, keys_move, move_to, state_move, Call, Post, Issue}
+use Rattle.qc_state.specs.Moves.{Move, Ack, Ask, Discard, Fail, Forget, Seal, Shut, Take, Unseal, Write, keys_move, move_to, state_move, Call, Post, Issue}
 use Rattle.qc_state.specs.Numbers.{next_number}
 use Rattle.qc_state.specs.Run.{IsAllowed, IsStep, Run, began, called, close_after, input_after, reported, step_after, time_of, datagram_limit}
 use Rattle.qc_state.specs.Sending.{MayTransmit, packet_size, transmit_after, Choice}
 use Rattle.qc_state.specs.Types.{Types, Meaning}
 use Rattle.qc_state.specs.View.{View, At}
 use Rattle.qc_state.proofs.Expired.{IsTimed, holds_timeout}
-use Rattle.qc_state.proofs.ReceivedMoves.{AreUnused, IsReceived}
+use Rattle.qc_state.proofs.ReceivedMoves.{AreUnused, FreshFits, IsReceived}
 use Rattle.qc_laws.proofs.Receives.{holds_datagram}
 use Rattle.qc_state.proofs.Transmitted.{IsSealable, IsSending, holds_transmit}
 use Rattle.qc_laws.proofs.StreamCalls.{called_input}
@@ -103,11 +107,59 @@ module _ {H P : Type 0} where
   sealed_hold v form.OneRtt n fresh h form.Early = tt
   sealed_hold v form.OneRtt n fresh h form.OneRtt = ring_within n v.«data» fresh
 
+  -- a ring whose count stays, or that begins a new epoch, in which nothing was sealed, seals no more than it may
+  ring_opened_within : (which : Which) (n : ℕ) (fresh : Option (Fresh P)) (o : Option (OneRttKeys H P)) → FreshFits which fresh → IsWithinLimit (option_map ring_usage o) → IsWithinLimit (option_map ring_usage (ring_opened which n fresh o))
+  unfolding ring_opened keyed_opened
+  ring_opened_within which n fresh None fits h = tt
+  ring_opened_within Next n None (Some k) fits h = h
+  ring_opened_within Next n (Some fresh) (Some k) fits h = omega arith
+  ring_opened_within Current n None (Some k) fits h = h
+  ring_opened_within Previous n None (Some k) fits h = h
+  ring_opened_within Current n (Some fresh) (Some k) fits h = absurd fits
+  ring_opened_within Previous n (Some fresh) (Some k) fits h = absurd fits
+
+  ring_acked_within : (n : ℕ) (o : Option (OneRttKeys H P)) → IsWithinLimit (option_map ring_usage o) → IsWithinLimit (option_map ring_usage (ring_acked n o))
+  unfolding ring_acked keyed_acked
+  ring_acked_within n None h = tt
+  ring_acked_within n (Some k) h = h
+
+  ring_discarded_within : (o : Option (OneRttKeys H P)) → IsWithinLimit (option_map ring_usage o) → IsWithinLimit (option_map ring_usage (ring_discarded o))
+  unfolding ring_discarded keyed_discarded
+  ring_discarded_within None h = tt
+  ring_discarded_within (Some k) h = floor_by (has_floor k.ring.ring.kept)
+    where
+      floor_by : (b : Bool) → IsWithinLimit (Some (ring_usage (record k { ring = if b then record k.ring { ring = after_discard k.ring.ring; previous = None } else k.ring })))
+      floor_by true = h
+      floor_by false = h
+
+  -- the 1-RTT keys are others, which hold it too
+  data_hold : (v : KeyGroup H P) (o : Option (OneRttKeys H P)) → IsWithinLimit (option_map ring_usage o) → KeysHold v → (other : Form) → IsWithinLimit (usage_of (record v { «data» = o }) other)
+  unfolding usage_of
+  data_hold v o within h form.Initial = h form.Initial
+  data_hold v o within h form.Handshake = h form.Handshake
+  data_hold v o within h form.Early = tt
+  data_hold v o within h form.OneRtt = within
+
+  opened_hold : (v : KeyGroup H P) (which : Which) (n : ℕ) (fresh : Option (Fresh P)) → FreshFits which fresh → KeysHold v → (other : Form) → IsWithinLimit (usage_of (key_opened v which n fresh) other)
+  unfolding key_opened usage_of
+  opened_hold v which n fresh fits h = data_hold v (ring_opened which n fresh v.«data») (ring_opened_within which n fresh v.«data» fits (h form.OneRtt)) h
+
+  acked_hold : (v : KeyGroup H P) (id : SpaceId) (n : ℕ) → KeysHold v → (other : Form) → IsWithinLimit (usage_of (key_acked v id n) other)
+  unfolding key_acked usage_of
+  acked_hold v Initial n h = h
+  acked_hold v Handshake n h = h
+  acked_hold v Data n h = data_hold v (ring_acked n v.«data») (ring_acked_within n v.«data» (h form.OneRtt)) h
+
+  discarded_hold : (v : KeyGroup H P) → KeysHold v → (other : Form) → IsWithinLimit (usage_of (key_discarded v) other)
+  unfolding key_discarded usage_of
+  discarded_hold v h = data_hold v (ring_discarded v.«data») (ring_discarded_within v.«data» (h form.OneRtt)) h
+
 module _ {t : Types} where
   -- where the key may seal one packet more, and keys that are given have sealed none
   abbrev IsSpare : Move t → View t → Type 0
   IsSpare (Seal time form n size fs) s = reaches_limit 0 (usage_of s.keys form) ≡ false
   IsSpare (Write bytes keys session) s = AreUnused keys
+  IsSpare (Unseal time n which fresh session) s = FreshFits which fresh
   IsSpare _ s = Unit {0}
 
   -- what holds of the keys at one moment holds at another
@@ -126,22 +178,28 @@ module _ {t : Types} where
   move_keeps (Seal time form n size fs) a spare = λ h. sealed_hold a.state.keys form n spare h
   move_keeps (Forget id) a spare = λ h. dropped_hold a.state.keys id h
   move_keeps Fail a spare = λ h. failed_hold a.state.keys h
+  move_keeps (Unseal time n which fresh session) a spare = λ h. opened_hold a.state.keys which n fresh spare h
+  move_keeps (Ack id n r) a spare = λ h. acked_hold a.state.keys id n h
+  move_keeps Discard a spare = λ h. discarded_hold a.state.keys h
   move_keeps (Write bytes keys session) a spare = λ h. given_hold a.state.keys keys spare h
   move_keeps _ a spare = λ h. h
 
   -- what is received, and what a timer does, seals nothing
   received_spare : (x : Move t) (s : View t) → IsReceived x → IsSpare x s
   received_spare (Write bytes keys session) s r = r
+  received_spare (Unseal time n which fresh session) s r = r
   received_spare (Seal time form n size fs) s r = absurd r
   received_spare _ s r = tt
 
   timed_spare : (x : Move t) (s : View t) → IsTimed x → IsSpare x s
   timed_spare (Write bytes keys session) s r = absurd r
+  timed_spare (Unseal time n which fresh session) s r = absurd r
   timed_spare (Seal time form n size fs) s r = absurd r
   timed_spare _ s r = tt
 
   sending_spare : (x : Move t) (s : View t) → IsSending x → IsSpare x s
   sending_spare (Write bytes keys session) s r = absurd r
+  sending_spare (Unseal time n which fresh session) s r = absurd r
   sending_spare (Seal time form n size fs) s r = absurd r
   sending_spare _ s r = tt
 

@@ -2,6 +2,7 @@
 use Rattle.std.proofs.Common.{◌≡◌, ℕ, List, refl, ap, sym, ◌∙◌, Bool, true, false, Some, if◌then◌else◌}
 use Rattle.std.specs.Prelude.{Ok}
 use Rattle.qc_base.specs.declared.side.SpaceId.{SpaceId}
+use Rattle.qc_base.specs.declared.side.SpaceId.TheVariants.{Initial, Handshake, «Data»}
 use Rattle.qc_frame.specs.Frame.{AckValue, FrameValue}
 use Rattle.qc_path.specs.Pacing.{Bucket, packet_paced}
 use Rattle.qc_recovery.specs.Steps.{After, FiredAfter}
@@ -13,12 +14,13 @@ use Rattle.qc_state.specs.declared.life.Close.{Close}
 use Rattle.qc_state.specs.declared.life.State.TheVariants.{Drained}
 use Rattle.qc_state.specs.Forms.{number_space}
 use Rattle.qc_state.specs.Life.{is_open, is_over}
-use Rattle.qc_state.specs.Moves.{Ack, Ask, Clock, Finish, Fire, MayMove, Move, Raise, ReportConnected, ReportDrained, ReportLost, ReportReady, ReportNotice, ReportNotices, Seal, Shut, Spend, Take, move_to, Call, ReportStream, ReportStreams, Tell, Post, ReportHeard, ReportAllHeard, Issue, Learn}
+use Rattle.qc_state.specs.Moves.{Ack, Ask, Clock, Finish, Fire, Forget, MayMove, Move, Raise, ReportConnected, ReportDrained, ReportLost, ReportReady, ReportNotice, ReportNotices, Seal, Shut, Spend, Take, move_to, Call, ReportStream, ReportStreams, Tell, Post, ReportHeard, ReportAllHeard, Issue, Learn}
 use Rattle.qc_state.specs.Numbers.{next_number}
 use Rattle.qc_state.specs.Receiving.{datagram_after}
 use Rattle.qc_state.specs.Recovering.{fired_by, settled_by}
 use Rattle.qc_state.specs.Run.{IsAllowed, close_after, input_after, datagram_limit}
 use Rattle.qc_state.specs.Sending.{Choice, packet_size, rate_of, spent_after, told_sent}
+use Rattle.qc_state.specs.Spaces.{is_space}
 use Rattle.qc_state.specs.Types.{Types, Meaning}
 use Rattle.qc_state.specs.View.{View, At}
 use Rattle.qc_state.proofs.Expired.{IsExpiry, holds_expired}
@@ -84,14 +86,15 @@ module _ {t : Types} where
     pub last : ℕ
     pub is : control ≡ m.control.after_sent s.paths.current.kept.congestion time bytes last
 
-  -- what is known of a move that an input makes, beside those with which a packet is taken and sealed: it is no report, a life that rises
-  -- by itself rises to its end, parameters are those that the session gives, what acknowledgements and the loss timer leave is what recovery
+  -- what is known of a move that an input makes, beside those with which a packet is taken and sealed: it is no report, the keys that are
+  -- dropped are none of 1-RTT packets, a life that rises by itself rises to its end, parameters are those that the session gives, what acknowledgements and the loss timer leave is what recovery
   -- makes of them, what the pacer and the controller are left with is what they make of a packet and of what was sent, and what is told by
   -- itself is no gift to the streams or to the ids
   abbrev pub IsKnownMove : Meaning t → Move t → View t → Type 0
   IsKnownMove m (Clock time) s = ⊥
   IsKnownMove m (Take id fs) s = ⊥
   IsKnownMove m (Seal time form n size fs) s = ⊥
+  IsKnownMove m (Forget id) s = is_space id «Data» ≡ false
   IsKnownMove m (Ack id n after) s = IsSettledBy m id after s
   IsKnownMove m (Fire after) s = IsFiredBy m after s
   IsKnownMove m (Raise to) s = to ≡ Drained
@@ -111,6 +114,15 @@ module _ {t : Types} where
   IsKnownMove m ReportDrained s = ⊥
   IsKnownMove m _ s = Unit {0}
 
+  -- the same, whatever space's keys are dropped
+  abbrev pub IsKnownAbout : Meaning t → Move t → View t → Type 0
+  IsKnownAbout m (Forget id) s = Unit {0}
+  IsKnownAbout m x s = IsKnownMove m x s
+
+  pub known_about : (m : Meaning t) (x : Move t) (s : View t) → IsKnownMove m x s → IsKnownAbout m x s
+  known_about m (Forget id) s h = tt
+  known_about m x s h = h
+
   -- so of the moves of a packet that opened
   settled_known : (m : Meaning t) (o : OpenPacket) (id : SpaceId) (n : ℕ) (after : After t.C) (s : View t) → IsSettledOf m o id n after s → IsSettledBy m id after s
   settled_known m o id n after s h = record { time = o.coming.time; ack = h.ack; is = h.settled ∙ ap (λ (space : SpaceId). settled_by m o.coming.time space h.ack s) (sym h.space) }
@@ -119,6 +131,9 @@ module _ {t : Types} where
   packet_known m o (Clock time) s h = absurd h
   packet_known m o (Take id fs) s h = absurd h
   packet_known m o (Seal time form n size fs) s h = absurd h
+  packet_known m o (Forget Initial) s h = refl
+  packet_known m o (Forget Handshake) s h = refl
+  packet_known m o (Forget Data) s h = absurd h
   packet_known m o (Ack id n after) s h = settled_known m o id n after s h
   packet_known m o (Fire after) s h = absurd h
   packet_known m o (Raise to) s h = absurd h
@@ -143,6 +158,7 @@ module _ {t : Types} where
   outside_known m at_time (Clock time) s h = absurd h
   outside_known m at_time (Take id fs) s h = absurd h
   outside_known m at_time (Seal time form n size fs) s h = absurd h
+  outside_known m at_time (Forget id) s h = absurd h
   outside_known m at_time (Ack id n after) s h = absurd h
   outside_known m at_time (Fire after) s h = absurd h
   outside_known m at_time (Raise to) s h = h
@@ -167,6 +183,7 @@ module _ {t : Types} where
   expiry_known m (Clock time) s h = absurd h
   expiry_known m (Take id fs) s h = absurd h
   expiry_known m (Seal time form n size fs) s h = absurd h
+  expiry_known m (Forget id) s h = absurd h
   expiry_known m (Ack id n after) s h = absurd h
   expiry_known m (Fire after) s h = absurd h
   expiry_known m (Raise to) s h = h
@@ -191,6 +208,7 @@ module _ {t : Types} where
   sending_known m (Clock time) s h = absurd h
   sending_known m (Take id fs) s h = absurd h
   sending_known m (Seal time form n size fs) s h = absurd h
+  sending_known m (Forget id) s h = ap (λ (space : SpaceId). is_space space «Data») h
   sending_known m (Ack id n after) s h = absurd h
   sending_known m (Fire after) s h = absurd h
   sending_known m (Raise to) s h = h

@@ -1,6 +1,7 @@
 pub mod Addresses
 pub mod AcksAccepted
 pub mod AcksBefore
+pub mod AcksAsked
 pub mod AcksKnown
 pub mod CidFrames
 pub mod CidKept
@@ -58,6 +59,11 @@ pub mod StreamsSealed
 pub mod StreamsMade
 pub mod StreamsFold
 pub mod FramesAcked
+pub mod BytePlaces
+pub mod StreamStands
+pub mod FlownSteps
+pub mod ResetSteps
+pub mod BytesKept
 pub mod ReadEnds
 pub mod ReadsHold
 pub mod WriteEnds
@@ -82,3 +88,5 @@ pub mod ProbesSealed
 pub mod SealedDatagrams
 pub mod SealRuns
 pub mod FieldsKept
+pub mod KeyEpochs
+pub mod KeysFold

@@ -30,7 +30,7 @@ use Rattle.qc_state.specs.Acks.{is_ack, told_counts}
 use Rattle.qc_state.specs.Forms.{number_space}
 use Rattle.qc_state.specs.Life.{is_open, is_over}
 use Rattle.qc_laws.specs.MarkLaws.{AcksTell, DeedsTell, EachTold, SealsTold, StepsTell, Tally, carried_mark, nothing_tallied, tally_accepted, tally_behind, tally_judged, tally_of, tally_since, tally_told}
-use Rattle.qc_state.specs.Moves.{Probe, Move, Clock, Ask, Take, Seal, Forget, Enter, Expect, Fail, Accept, Fix, Hear, Ack, Fire, Arm, Pace, Release, Begin, Skip, Come, Read, Write, Ready, Token, Learn, Want, Confirm, Establish, Tell, PeerClosesToo, PeerCloses, Owe, Shut, Raise, Give, Say, Finish, ReportReady, ReportConnected, ReportLost, ReportNotice, ReportNotices, ReportDrained, accepts, enters, state_move, move_to, deeds_move, waiting_move, numbers_move, keys_move, life_move, MayMove, IsTold, told, Hand, Call, ReportStream, ReportStreams, told_to_streams, Post, ReportHeard, ReportAllHeard, Insert, Switch, Retire, Issue, Outlive, Hold, Spend}
+use Rattle.qc_state.specs.Moves.{Probe, Move, Clock, Ask, Take, Seal, Forget, Enter, Expect, Fail, Accept, Fix, Hear, Ack, Fire, Arm, Pace, Release, Begin, Skip, Come, Read, Write, Ready, Token, Learn, Want, Confirm, Establish, Tell, PeerClosesToo, PeerCloses, Owe, Shut, Raise, Give, Say, Finish, ReportReady, ReportConnected, ReportLost, ReportNotice, ReportNotices, ReportDrained, accepts, enters, state_move, move_to, deeds_move, waiting_move, numbers_move, keys_move, life_move, MayMove, IsTold, told, Hand, Call, ReportStream, ReportStreams, told_to_streams, Post, ReportHeard, ReportAllHeard, Insert, Switch, Retire, Issue, Outlive, Hold, Spend, Discard, Unseal}
 use Rattle.qc_state.specs.Numbers.{next_number}
 use Rattle.qc_state.specs.Offers.{packet_begun}
 use Rattle.qc_state.proofs.Probed.{begun_holds}
@@ -177,6 +177,7 @@ accepts_none : (v : Verdict) → enters v ≡ false → accepts v ≡ false
 accepts_none verdict.Ignored h = refl
 accepts_none verdict.Failure h = refl
 accepts_none verdict.BadBits h = refl
+accepts_none verdict.BadUpdate h = refl
 accepts_none verdict.Seen h = refl
 accepts_none verdict.ReadForClose h = refl
 accepts_none verdict.NumberOnly h = refl
@@ -316,6 +317,8 @@ module _ {t : Types} where
   counted_move id mark (Expect token) a h k = silent_counted id mark (Expect token) a refl refl
   counted_move id mark (Enter space n v) a h k = plain_counted id mark (Enter space n v) _ a refl (λ y. tt) (λ y. judged_same id mark (Some space) v y k) refl
   counted_move id mark Fail a h k = silent_counted id mark Fail a refl refl
+  counted_move id mark (Unseal time n which fresh session) a h k = silent_counted id mark (Unseal time n which fresh session) a refl refl
+  counted_move id mark Discard a h k = silent_counted id mark Discard a refl refl
   counted_move id mark (Accept time space n e g v) a h k = accept_counted id mark (Accept time space n e g v) space n v _ _ g.mark a refl refl k.0 k.1
   counted_move id mark (Fix cid) a h k = silent_counted id mark (Fix cid) a refl refl
   counted_move id mark (Hear bytes) a h k = silent_counted id mark (Hear bytes) a refl refl
@@ -429,6 +432,7 @@ module _ {t : Types} where
   timed_telling (Fire after) s r = tt
   timed_telling (Arm at) s r = tt
   timed_telling Pace s r = tt
+  timed_telling Discard s r = tt
   timed_telling Release s r = tt
   timed_telling Outlive s r = tt
   timed_telling (Want time count) s r = tt

@@ -36,7 +36,7 @@ use Rattle.qc_state.specs.declared.paths.Paths.{Paths}
 use Rattle.qc_state.specs.declared.trace.Step.{Step}
 use Rattle.qc_state.specs.Forms.{number_space}
 use Rattle.qc_state.specs.Life.{is_open}
-use Rattle.qc_state.specs.Moves.{Accept, Ack, Arm, Come, Confirm, PeerClosesToo, Enter, Establish, Expect, Fail, Fire, Fix, Forget, Give, Hear, Learn, PeerCloses, MayMove, Move, Owe, Pace, Raise, Read, Ready, Release, Say, Seal, Shut, Take, Tell, Token, Want, Write, armed_after, armed_with, deeds_move, move_to, paths_move, state_move, told, Begin, Skip, Hand, told_to_streams, Insert, Switch, Retire, Outlive, Probe, Spend}
+use Rattle.qc_state.specs.Moves.{Accept, Ack, Arm, Come, Confirm, PeerClosesToo, Enter, Establish, Expect, Fail, Fire, Fix, Forget, Give, Hear, Learn, PeerCloses, MayMove, Move, Owe, Pace, Raise, Read, Ready, Release, Say, Seal, Shut, Take, Tell, Token, Want, Write, armed_after, armed_with, deeds_move, move_to, paths_move, state_move, told, Begin, Skip, Hand, told_to_streams, Insert, Switch, Retire, Outlive, Probe, Spend, Discard, Unseal}
 use Rattle.qc_state.specs.Numbers.{next_number, received_number}
 use Rattle.qc_state.specs.Headline.{deeds_of}
 use Rattle.qc_laws.specs.PathLaws.{IsLimited, PathHolds, all_from, bytes_from, is_handshake_admitted}
@@ -391,6 +391,7 @@ module _ {t : Types} where
   still_move (Insert new) r a h = deed_at (Insert new) _ a refl (record { same = refl; first = refl; received = refl; sent = refl; kept = λ v. v }) (λ v. inl v)
   still_move Switch r a h = silent_at Switch a refl (record { same = refl; first = refl; received = refl; sent = refl; kept = λ v. v }) (λ v. inl v)
   still_move (Retire time n) r a h = deed_at (Retire time n) _ a refl (still_here a.state.paths) (λ v. inl v)
+  still_move (Unseal time number which fresh session) r a h = silent_at (Unseal time number which fresh session) a refl (still_here a.state.paths) (λ v. inl v)
   still_move _ r a h = absurd r
 
   -- the packets of a datagram
@@ -641,6 +642,7 @@ module _ {t : Types} where
   timed_paths (Fire after) r a h = (kept_still a.state.paths after.path, refl)
   timed_paths (Arm at) r a h = (still_here a.state.paths, refl)
   timed_paths Pace r a h = (still_here a.state.paths, refl)
+  timed_paths Discard r a h = (still_here a.state.paths, refl)
   timed_paths Release r a h = (still_here a.state.paths, refl)
   timed_paths Outlive r a h = (still_here a.state.paths, refl)
   timed_paths (Want time count) r a h = (still_here a.state.paths, refl)

@@ -1,5 +1,5 @@
 -- What is told of a packet that came, and that it gives to the layers what the applied frames of its payload give.
-use Rattle.std.proofs.Common.{◌≡◌, ◌⊎◌, inl, inr, ℕ, List, [], ◌∷◌, ◌++◌, length, refl, ap, sym, ◌∙◌, Bool, true, false, Option, Some, None, if◌then◌else◌, append_assoc, append-nil}
+use Rattle.std.proofs.Common.{◌≡◌, ◌⊎◌, inl, inr, ℕ, List, [], ◌∷◌, ◌++◌, length, refl, ap, sym, ◌∙◌, Bool, true, false, Option, Some, None, if◌then◌else◌, append_assoc, append-nil, subst}
 use Rattle.std.specs.Prelude.{not, Ok, Err}
 use Rattle.std.specs.List.{list_any}
 use Rattle.qc_base.specs.declared.side.Side.TheVariants.{Server}
@@ -8,6 +8,7 @@ use Rattle.qc_base.specs.declared.side.SpaceId.TheVariants.{Initial}
 use Rattle.qc_frame.specs.Payload.{items_of}
 use Rattle.qc_header.specs.HeaderGrammar.{DatagramItem}
 use Rattle.qc_header.specs.Piece.{Piece, space_of}
+use Rattle.qc_base.specs.declared.transport_error.TransportError.{TransportError}
 use Rattle.qc_state.specs.declared.coming.Coming.{Coming}
 use Rattle.qc_state.specs.declared.deeds.Did.{Did}
 use Rattle.qc_state.specs.declared.deeds.Did.TheVariants as did
@@ -18,34 +19,38 @@ use Rattle.qc_state.specs.declared.life.ConnectionError.{ConnectionError}
 use Rattle.qc_state.specs.declared.life.ConnectionError.TheVariants as lost
 use Rattle.qc_state.specs.declared.life.State.TheVariants as state
 use Rattle.qc_state.specs.declared.opening.Opening.{Opening}
-use Rattle.qc_state.specs.declared.opening.Opening.TheVariants.{Unreadable, Unopened, Reserved, Opened}
+use Rattle.qc_state.specs.declared.opening.Opening.TheVariants.{Unreadable, Unopened, Reserved, Untimely, Opened}
 use Rattle.qc_state.specs.declared.trace.Step.{Step}
+use Rattle.qc_state.specs.declared.keys.Fresh.{Fresh}
 use Rattle.qc_state.specs.Keys.{fails_too_often}
 use Rattle.qc_state.specs.Life.{is_over}
-use Rattle.qc_state.specs.Moves.{Move, Accept, PeerClosesToo, Enter, Expect, Fail, Fix, Forget, Owe, Raise, Tell, armed_with, deeds_move, move_to, state_move}
+use Rattle.qc_state.specs.Moves.{Move, Accept, PeerClosesToo, Enter, Expect, Fail, Fix, Forget, Owe, Raise, Tell, armed_with, deeds_move, move_to, state_move, Unseal, numbers_move, life_move, paths_move, setup_move}
 use Rattle.qc_state.specs.Opening.{opening_of}
 use Rattle.qc_state.specs.Paths.{is_blocked}
 use Rattle.qc_laws.specs.PieceLaws.{TellsDatagram, TellsPiece, TellsPieces, gifts_by, opening_deed, opening_gifts, payload_gifts, piece_deed, piece_gifts, view_admitted}
 use Rattle.qc_state.specs.Receiving.{accepted_after, admitted_after, counted_after, cut_of, datagram_after, failed_after, first_after, first_token, fixed_after, fixes_peer, heard_after, is_close_item, is_eliciting_item, opening_after, payload_after, piece_after, pieces_after, piece_told, read_for_close, received_after, signs_of, verdict_after}
 use Rattle.qc_state.specs.Run.{IsStep, began, called, input_after}
 use Rattle.qc_state.specs.Sending.{drops_initial, initial_left}
-use Rattle.qc_state.specs.Stopping.{key_limit_error, killed_after, stopped_after, violation_at}
+use Rattle.qc_state.specs.Stopping.{key_limit_error, killed_after, stopped_after, update_error, violation_at}
 use Rattle.qc_state.specs.Types.{Types, Meaning}
 use Rattle.qc_state.specs.Verdicts.{first_row, verdict_of}
 use Rattle.qc_state.specs.View.{View, At, at}
+use Rattle.qc_state.specs.Updating.{fresh_by, session_by, unsealed_after}
 use Rattle.qc_state.proofs.Ends.{holds_initial}
 use Rattle.qc_laws.proofs.PathsHold.{counted_did}
 use Rattle.qc_laws.proofs.Receives.{same_cut}
 use Rattle.qc_state.proofs.Telling.{told_appends}
 use Rattle.qc_laws.proofs.Gifts.{Along, Gives, along_same, ending_quiet, given_quiet, gives_here, gives_move, payload_gives, quiet_gives, quiet_next, stopped_quiet}
+use Rattle.qc_rings.specs.declared.which.Which.{Which}
 
 -- ---- a packet by its verdict
 
 -- a packet that opened has one of five verdicts
-abbrev is_read : Verdict → Bool
+abbrev pub is_read : Verdict → Bool
 is_read verdict.Ignored = false
 is_read verdict.Failure = false
 is_read verdict.BadBits = false
+is_read verdict.BadUpdate = false
 is_read _ = true
 
 read_by_row : (new closed early other : Bool) → is_read (first_row ((not new, verdict.Seen) ∷ (closed, verdict.ReadForClose) ∷ (early, verdict.NumberOnly) ∷ (other, verdict.AckOnly) ∷ []) verdict.Admitted) ≡ true
@@ -112,7 +117,7 @@ module _ {t : Types} where
       holds_initial (Gives []) gives_here quiet_next ending_quiet Server (is_blocked b.state.paths) coming.time id b
 
   -- a packet that is admitted
-  admitted_tells : (m : Meaning t) (coming : Coming) (id : SpaceId) (spin : Bool) (source : List ℕ) (number : ℕ) (payload : List ℕ) (a : At t) →
+  pub admitted_tells : (m : Meaning t) (coming : Coming) (id : SpaceId) (spin : Bool) (source : List ℕ) (number : ℕ) (payload : List ℕ) (a : At t) →
       TellsPiece (did.Piece (Some id) (Some number) verdict.Admitted) (gifts_by m coming id spin source number payload verdict.Admitted a.state) a (admitted_after m coming id spin source number payload a)
   unfolding admitted_after deeds_move
   admitted_tells m coming id spin source number payload a =
@@ -151,6 +156,7 @@ module _ {t : Types} where
   verdict_tells m coming id spin source number payload verdict.Ignored a h = cc
   verdict_tells m coming id spin source number payload verdict.Failure a h = cc
   verdict_tells m coming id spin source number payload verdict.BadBits a h = cc
+  verdict_tells m coming id spin source number payload verdict.BadUpdate a h = cc
   verdict_tells m coming id spin source number payload verdict.Seen a h =
       let tell : Move t = Tell (did.Piece (Some id) (Some number) verdict.Seen) in
       tells_then (did.Piece (Some id) (Some number) verdict.Seen) [] tell a _ refl (gives_here (move_to tell a))
@@ -161,7 +167,7 @@ module _ {t : Types} where
   verdict_tells m coming id spin source number payload verdict.AckOnly a h = ack_only_tells coming id number spin a
   verdict_tells m coming id spin source number payload verdict.Admitted a h = admitted_tells m coming id spin source number payload a
 
-  read_row : (s : View t) (id : SpaceId) (source token : List ℕ) (number : ℕ) → is_read (verdict_of s id source token number) ≡ true
+  pub read_row : (s : View t) (id : SpaceId) (source token : List ℕ) (number : ℕ) → is_read (verdict_of s id source token number) ≡ true
   unfolding verdict_of
   read_row s id source token number = read_by_row _ _ _ _
 
@@ -201,19 +207,43 @@ module _ {t : Types} where
       let c : At t = move_to (Tell d) b in
       tells_behind d [] Fail a _ refl (tells_then d [] (Tell d) b _ refl (killed_by (lost.TransportError key_limit_error) c (fails_too_often c.state.keys)))
 
-  reserved_tells : (time : ℕ) (space : Option SpaceId) (number : ℕ) (a : At t) → TellsPiece (did.Piece space (Some number) verdict.BadBits) [] a (stopped_after time (violation_at None) (piece_told space (Some number) verdict.BadBits a))
+  -- this end closes for an error that the packet shows, which is told with its verdict
+  refused_tells : (time : ℕ) (d : Did) (error : TransportError) (a : At t) → TellsPiece d [] a (stopped_after time error (move_to (Tell d) a))
   unfolding deeds_move
-  reserved_tells time space number a =
-      let d : Did = did.Piece space (Some number) verdict.BadBits in
-      tells_then d [] (Tell d) a _ refl (stopped_quiet time (violation_at None) (move_to (Tell d) a))
+  refused_tells time d error a = tells_then d [] (Tell d) a _ refl (stopped_quiet time error (move_to (Tell d) a))
+
+  -- the step of the ring that a packet makes leaves its verdict
+  pub unsealed_verdict : (time n : ℕ) (which : Which) (fresh : Option (Fresh t.P)) (session : t.S) (s : View t) (id : SpaceId) (source token : List ℕ) (number : ℕ) →
+      verdict_of (state_move (Unseal time n which fresh session) s) id source token number ≡ verdict_of s id source token number
+  unfolding verdict_of state_move numbers_move life_move paths_move setup_move
+  unsealed_verdict time n which fresh session s id source token number = refl
+
+  -- a packet that opened, behind that step
+  pub opened_tells : (m : Meaning t) (coming : Coming) (id : SpaceId) (source token : List ℕ) (spin : Bool) (which : Option Which) (number : ℕ) (payload : List ℕ) (a : At t) →
+      let v : Verdict = verdict_of a.state id source token number in
+      TellsPiece (did.Piece (Some id) (Some number) v) (gifts_by m coming id spin source number payload v (unsealed_after m coming.time which number (at a.state [])).state) a
+      (received_after m coming id spin source token number payload (unsealed_after m coming.time which number a))
+  unfolding deeds_move move_to
+  opened_tells m coming id source token spin None number payload a = received_tells m coming id spin source token number payload a
+  opened_tells m coming id source token spin (Some which) number payload a =
+      let fresh : Option (Fresh t.P) = fresh_by m which a.state in
+      let session : t.S = session_by m which a.state.lower.session in
+      let x : Move t = Unseal coming.time number which fresh session in
+      let b : At t = move_to x a in
+      let v : Verdict = verdict_of a.state id source token number in
+      tells_behind (did.Piece (Some id) (Some number) v) (gifts_by m coming id spin source number payload v b.state) x a (received_after m coming id spin source token number payload b) refl
+      (subst (λ (w : Verdict). TellsPiece (did.Piece (Some id) (Some number) w) (gifts_by m coming id spin source number payload w b.state) b (received_after m coming id spin source token number payload b))
+      (unsealed_verdict coming.time number which fresh session a.state id source token number)
+      (received_tells m coming id spin source token number payload b))
 
   opening_tells : (m : Meaning t) (coming : Coming) (space : Option SpaceId) (o : Opening) (a : At t) →
       TellsPiece (opening_deed a.state space o) (opening_gifts m coming a.state space o) a (opening_after m coming space o a)
   opening_tells m coming space Unreadable a = told_as (did.Piece space None verdict.Ignored) a
   opening_tells m coming space Unopened a = failed_tells space a
-  opening_tells m coming space (Reserved number) a = reserved_tells coming.time space number a
-  opening_tells m coming (Some id) (Opened source token spin number payload) a = received_tells m coming id spin source token number payload a
-  opening_tells m coming None (Opened source token spin number payload) a = told_as (did.Piece None None verdict.Ignored) a
+  opening_tells m coming space (Reserved number) a = refused_tells coming.time (did.Piece space (Some number) verdict.BadBits) (violation_at None) a
+  opening_tells m coming space (Untimely number) a = refused_tells coming.time (did.Piece space (Some number) verdict.BadUpdate) update_error a
+  opening_tells m coming (Some id) (Opened source token spin which number payload) a = opened_tells m coming id source token spin which number payload a
+  opening_tells m coming None (Opened source token spin which number payload) a = told_as (did.Piece None None verdict.Ignored) a
 
   piece_by : (m : Meaning t) (coming : Coming) (space : Option SpaceId) (o : Opening) (a : At t) (b : Bool) →
       TellsPiece (if b then did.Piece space None verdict.Ignored else opening_deed a.state space o) (if b then [] else opening_gifts m coming a.state space o) a
@@ -232,38 +262,54 @@ module _ {t : Types} where
   pieces_tell m coming (Err fault ∷ items) a = tt
   pieces_tell m coming (Ok p ∷ items) a = (piece_tells m coming p a, pieces_tell m coming items (piece_after m coming p a))
 
-  -- a datagram that is heard, or dropped, where a token may be expected before
-  heard_by : (m : Meaning t) (coming : Coming) (blocked : Bool) (n : ℕ) (bytes : List ℕ) (a c : At t) (b : Bool) → (c ≡ a) ⊎ ((token : List ℕ) × (c ≡ move_to (Expect token) a)) →
-      cut_of c.state bytes ≡ cut_of a.state bytes → TellsDatagram m coming bytes a (if b then counted_after coming.time blocked n (pieces_after m coming (cut_of c.state bytes) c) else c)
-  unfolding TellsPieces
-  heard_by m coming blocked n bytes a c true begins same = record {
-    items = cut_of c.state bytes;
-    cut = inr same;
-    start = c;
-    begins = begins;
-    told = pieces_tell m coming (cut_of c.state bytes) c;
-    ends = counted_did coming.time blocked n (pieces_after m coming (cut_of c.state bytes) c);
-  }
-  heard_by m coming blocked n bytes a c false begins same = record { items = []; cut = inl refl; start = c; begins = begins; told = tt; ends = refl }
+  -- where the packets of a datagram begin: a token may be expected before
+  abbrev pub Begins : At t → At t → Type 0
+  Begins a start = (start ≡ a) ⊎ ((token : List ℕ) × (start ≡ move_to (Expect token) a))
 
-  heard_tells : (m : Meaning t) (coming : Coming) (bytes : List ℕ) (a c : At t) → (c ≡ a) ⊎ ((token : List ℕ) × (c ≡ move_to (Expect token) a)) →
-      cut_of c.state bytes ≡ cut_of a.state bytes → TellsDatagram m coming bytes a (heard_after m coming bytes c)
+-- what holds where a datagram is dropped, and where its packets are heard and count, holds of the packets that a datagram is told to have
+module _ {t : Types} (m : Meaning t) (coming : Coming) (bytes : List ℕ) (P : List DatagramItem → (start a b : At t) → Type 0)
+    (dropped : (a start : At t) → Begins a start → P [] start a start)
+    (counted : (a start : At t) → Begins a start → (blocked : Bool) (n : ℕ) → P (cut_of start.state bytes) start a (counted_after coming.time blocked n (pieces_after m coming (cut_of start.state bytes) start))) where
+  abbrev TellsWith : At t → At t → Type 0
+  TellsWith a b = (told : TellsDatagram m coming bytes a b) × P told.items told.start a b
+
+  -- a datagram that is heard, or dropped
+  heard_by : (blocked : Bool) (n : ℕ) (a c : At t) (b : Bool) → Begins a c → cut_of c.state bytes ≡ cut_of a.state bytes →
+      TellsWith a (if b then counted_after coming.time blocked n (pieces_after m coming (cut_of c.state bytes) c) else c)
+  unfolding TellsPieces
+  heard_by blocked n a c true begins same = (
+    record {
+      items = cut_of c.state bytes;
+      cut = inr same;
+      start = c;
+      begins = begins;
+      told = pieces_tell m coming (cut_of c.state bytes) c;
+      ends = counted_did coming.time blocked n (pieces_after m coming (cut_of c.state bytes) c);
+    },
+    counted a c begins blocked n,
+  )
+  heard_by blocked n a c false begins same = (record { items = []; cut = inl refl; start = c; begins = begins; told = tt; ends = refl }, dropped a c begins)
+
+  heard_with : (a c : At t) → Begins a c → cut_of c.state bytes ≡ cut_of a.state bytes → TellsWith a (heard_after m coming bytes c)
   unfolding heard_after
-  heard_tells m coming bytes a c begins same = heard_by m coming (is_blocked c.state.paths) (length bytes) bytes a c _ begins same
+  heard_with a c begins same = heard_by (is_blocked c.state.paths) (length bytes) a c _ begins same
 
-  first_tells : (m : Meaning t) (coming : Coming) (bytes : List ℕ) (token : Option (List ℕ)) (a : At t) → TellsDatagram m coming bytes a (first_after m coming bytes token a)
+  first_with : (token : Option (List ℕ)) (a : At t) → TellsWith a (first_after m coming bytes token a)
   unfolding TellsPieces
-  first_tells m coming bytes None a = record { items = []; cut = inl refl; start = a; begins = inl refl; told = tt; ends = refl }
-  first_tells m coming bytes (Some token) a = heard_tells m coming bytes a (move_to (Expect token) a) (inr (token, refl)) (same_cut token bytes a)
+  first_with None a = (record { items = []; cut = inl refl; start = a; begins = inl refl; told = tt; ends = refl }, dropped a a (inl refl))
+  first_with (Some token) a = heard_with a (move_to (Expect token) a) (inr (token, refl)) (same_cut token bytes a)
 
-  datagram_by : (m : Meaning t) (coming : Coming) (bytes : List ℕ) (token : Option (List ℕ)) (a : At t) (b : Bool) →
-      TellsDatagram m coming bytes a (if b then first_after m coming bytes token a else heard_after m coming bytes a)
-  datagram_by m coming bytes token a true = first_tells m coming bytes token a
-  datagram_by m coming bytes token a false = heard_tells m coming bytes a a (inl refl) refl
+  datagram_by : (token : Option (List ℕ)) (a : At t) (b : Bool) → TellsWith a (if b then first_after m coming bytes token a else heard_after m coming bytes a)
+  datagram_by token a true = first_with token a
+  datagram_by token a false = heard_with a a (inl refl) refl
 
-  pub datagram_tells : (m : Meaning t) (coming : Coming) (bytes : List ℕ) (a : At t) → TellsDatagram m coming bytes a (datagram_after m coming bytes a)
+  pub datagram_with : (a : At t) → (told : TellsDatagram m coming bytes a (datagram_after m coming bytes a)) × P told.items told.start a (datagram_after m coming bytes a)
   unfolding datagram_after
-  datagram_tells m coming bytes a = datagram_by m coming bytes (first_token m a.state coming.remote bytes) a _
+  datagram_with a = datagram_by (first_token m a.state coming.remote bytes) a _
+
+module _ {t : Types} where
+  pub datagram_tells : (m : Meaning t) (coming : Coming) (bytes : List ℕ) (a : At t) → TellsDatagram m coming bytes a (datagram_after m coming bytes a)
+  datagram_tells m coming bytes a = (datagram_with m coming bytes (λ items start b c. Unit {0}) (λ b start begins. tt) (λ b start begins blocked n. tt) a).0
 
   -- a step over a datagram tells that
   pub step_tells : (m : Meaning t) (k : ℕ) (s : View t) (coming : Coming) (bytes : List ℕ) (x : Step) (s' : View t) →

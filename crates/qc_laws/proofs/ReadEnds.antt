@@ -151,7 +151,7 @@ from_sized P id s st r h (PeerOpened dir is before) side = new_sized P s.stream_
 
 stepped_knows : (P Q : ℕ → Type 0) (id : ℕ) (x : Step) (s : StreamsState) → ((n : ℕ) → P n → Q n) → ((n : ℕ) → tells_end id n x ≡ true → Q n) → KnowsEnd P id s → SteppedAt id x s → KnowsEnd Q id (after_step x s)
 unfolding receiving_at
-stepped_knows P Q id x s weaker told h (Gone gone) = λ q is. absurd (some_not_none (receiving_at id (after_step x s)) q (ap (λ (o : Option StreamRecord). receiving_of o) gone) is)
+stepped_knows P Q id x s weaker told h (Gone gone why) = λ q is. absurd (some_not_none (receiving_at id (after_step x s)) q (ap (λ (o : Option StreamRecord). receiving_of o) gone) is)
 stepped_knows P Q id x s weaker told h (There st after_it from stepped there) = λ q is.
     let found = mapped (came_to id x) st.receiving q (sym stepped.receiving ∙ sym (ap (λ (o : Option StreamRecord). receiving_of o) there) ∙ is) in
     subst (λ (r : Recv). Sized Q r) found.2 (step_sized P Q id x found.0 weaker told (from_sized P id s st found.0 h from found.1))

@@ -127,7 +127,7 @@ unfolding keeps_streams
 stays_on EarlyRefused h = cc
 stays_on _ h = refl
 
-all_stay : (xs : List Step) → NoneOf is_other xs → list_all keeps_streams xs ≡ true
+pub all_stay : (xs : List Step) → NoneOf is_other xs → list_all keeps_streams xs ≡ true
 all_stay [] h = refl
 all_stay (x ∷ xs) h = both (keeps_streams x) (list_all keeps_streams xs) (stays_on x (or_first (is_other x) (list_any is_other xs) h)) (all_stay xs (or_rest (is_other x) (list_any is_other xs) h))
 

@@ -5,6 +5,8 @@ use Rattle.std.specs.Prelude.{not, ◌&&◌, Ok, Err}
 use Rattle.qc_base.specs.declared.side.SpaceId.{SpaceId}
 use Rattle.qc_header.specs.HeaderGrammar.{DatagramItem}
 use Rattle.qc_header.specs.Piece.{Piece, space_of}
+use Rattle.qc_base.specs.declared.transport_error.TransportError.{TransportError}
+use Rattle.qc_state.specs.declared.deeds.Did.{Did}
 use Rattle.qc_state.specs.declared.coming.Coming.{Coming}
 use Rattle.qc_state.specs.declared.deeds.Did.TheVariants as did
 use Rattle.qc_state.specs.declared.deeds.Verdict.TheVariants as verdict
@@ -13,22 +15,22 @@ use Rattle.qc_state.specs.declared.life.ConnectionError.TheVariants as lost
 use Rattle.qc_state.specs.declared.life.State.{State}
 use Rattle.qc_state.specs.declared.life.State.TheVariants as state
 use Rattle.qc_state.specs.declared.opening.Opening.{Opening}
-use Rattle.qc_state.specs.declared.opening.Opening.TheVariants.{Unreadable, Unopened, Reserved, Opened}
+use Rattle.qc_state.specs.declared.opening.Opening.TheVariants.{Unreadable, Unopened, Reserved, Untimely, Opened}
 use Rattle.qc_state.specs.Keys.{fails_too_often}
 use Rattle.qc_state.specs.Life.{rank_of, is_over}
-use Rattle.qc_state.specs.Moves.{Move, Arm, Expect, Fail, Give, Hear, Raise, Shut, Tell, move_to, state_move, setup_move, life_move, MayMove, armed_after, armed_with}
+use Rattle.qc_state.specs.Moves.{IsTold, Move, Arm, Expect, Fail, Give, Hear, Raise, Shut, Tell, move_to, state_move, setup_move, life_move, MayMove, armed_after, armed_with}
 use Rattle.qc_state.specs.Opening.{opening_of}
 use Rattle.qc_state.specs.Paths.{is_blocked}
 use Rattle.qc_state.specs.Receiving.{piece_told, received_after, failed_after, opening_after, piece_after, pieces_after, cut_of, datagram_after, counted_after, heard_after, first_token, first_after}
 use Rattle.qc_state.specs.Recovering.{loss_time}
 use Rattle.qc_state.specs.Setup.{token_expected}
-use Rattle.qc_state.specs.Stopping.{key_limit_error, killed_after, stopped_after, violation_at}
+use Rattle.qc_state.specs.Stopping.{key_limit_error, killed_after, stopped_after, update_error, violation_at}
 use Rattle.qc_state.specs.Types.{Types, Meaning}
 use Rattle.qc_state.specs.View.{View, At}
 use Rattle.qc_state.proofs.Ends.{given_by, stopped_by}
 use Rattle.qc_state.proofs.OpenPackets.{holds_packet, packet_received}
 use Rattle.qc_state.proofs.PacketMoves.{OpenPacket, in_packet_piece}
-use Rattle.qc_state.proofs.ReceivedMoves.{IsOfPiece, IsOutside, IsReceived, IsUnopened, IsUnopenedReason, close_for, outside_received, piece_received, unopened_outside, unopened_piece}
+use Rattle.qc_state.proofs.ReceivedMoves.{IsOfPiece, IsOutside, IsReceived, IsUnopened, IsUnopenedError, IsUnopenedReason, IsUnread, close_for, outside_received, piece_received, unopened_outside, unopened_piece}
 
 -- a connection that isn't over has not ended
 lively_rank : (s : State) → is_over s ≡ false → rank_of s < 4
@@ -50,7 +52,7 @@ module _ {t : Types} where
   pub record IsOpened (m : Meaning t) (coming : Coming) (s : View t) (p : Piece) (o : OpenPacket) : Type 0 where
     pub came : o.coming ≡ coming
     pub form : space_of p.header ≡ Some o.space
-    pub opened : opening_of m s p ≡ Opened o.source o.token o.spin o.number o.payload
+    pub opened : opening_of m s p ≡ Opened o.source o.token o.spin o.which o.number o.payload
     pub lively : is_over s.life.state ≡ false
 
   -- what is expected leaves how a datagram is cut
@@ -96,26 +98,27 @@ module _ {t : Types} (m : Meaning t) (coming : Coming) (Comes : Piece → Type 0
       next a b _ (move Fail tt a tt)
       (next b c _ (move (Tell (did.Piece space None verdict.Failure)) tt b refl) (killed_by (lost.TransportError key_limit_error) c (fails_too_often c.state.keys) (inr refl) low))
 
-  -- its reserved bits aren't 0
-  reserved : (space : Option SpaceId) (number : ℕ) (a : At t) → R a (stopped_after coming.time (violation_at None) (piece_told space (Some number) verdict.BadBits a))
+  -- its reserved bits aren't 0, or it shows an update that its sender wasn't allowed to make: this is told, and this end closes for it
+  refused : (d : Did) (error : TransportError) (a : At t) → IsUnread d → IsTold d → IsUnopenedError error → R a (stopped_after coming.time error (move_to (Tell d) a))
   unfolding MayMove
-  reserved space number a =
-      let b : At t = move_to (Tell (did.Piece space (Some number) verdict.BadBits)) a in
-      let c : At t = move_to (Shut coming.time (close_for (violation_at None))) b in
-      next a b _ (move (Tell (did.Piece space (Some number) verdict.BadBits)) tt a refl)
-      (stopped_by R here next coming.time (violation_at None) b (λ low. move (Shut coming.time (close_for (violation_at None))) (refl, refl) b low)
-      (λ none. move (Give (lost.TransportError (violation_at None))) (inl refl) c none))
+  refused d error a unread untold known =
+      let b : At t = move_to (Tell d) a in
+      let c : At t = move_to (Shut coming.time (close_for error)) b in
+      next a b _ (move (Tell d) unread a untold)
+      (stopped_by R here next coming.time error b (λ low. move (Shut coming.time (close_for error)) (refl, (error, refl, known)) b low)
+      (λ none. move (Give (lost.TransportError error)) (inl (error, refl, known)) c none))
 
   -- a packet by what came of taking its protection off
   opening_by : (p : Piece) (space : Option SpaceId) (o : Opening) (a : At t) → Comes p → space_of p.header ≡ space → opening_of m a.state p ≡ o → is_over a.state.life.state ≡ false → R a (opening_after m coming space o a)
   unfolding MayMove
   opening_by p space Unreadable a comes form opened lively = move (Tell (did.Piece space None verdict.Ignored)) tt a refl
   opening_by p space Unopened a comes form opened lively = failed space a (lively_rank a.state.life.state lively)
-  opening_by p space (Reserved number) a comes form opened lively = reserved space number a
-  opening_by p (Some space) (Opened source token spin number payload) a comes form opened lively =
-      packet p comes (record { coming = coming; space = space; spin = spin; source = source; token = token; number = number; payload = payload }) a
+  opening_by p space (Reserved number) a comes form opened lively = refused (did.Piece space (Some number) verdict.BadBits) (violation_at None) a tt refl (inl refl)
+  opening_by p space (Untimely number) a comes form opened lively = refused (did.Piece space (Some number) verdict.BadUpdate) update_error a tt refl (inr refl)
+  opening_by p (Some space) (Opened source token spin which number payload) a comes form opened lively =
+      packet p comes (record { coming = coming; space = space; spin = spin; which = which; source = source; token = token; number = number; payload = payload }) a
       (record { came = refl; form = form; opened = opened; lively = lively })
-  opening_by p None (Opened source token spin number payload) a comes form opened lively = move (Tell (did.Piece None None verdict.Ignored)) tt a refl
+  opening_by p None (Opened source token spin which number payload) a comes form opened lively = move (Tell (did.Piece None None verdict.Ignored)) tt a refl
 
   piece_by : (p : Piece) (a : At t) (b : Bool) → Comes p → is_over a.state.life.state ≡ b → R a (if b then piece_told (space_of p.header) None verdict.Ignored a else opening_after m coming (space_of p.header) (opening_of m a.state p) a)
   unfolding MayMove
@@ -177,7 +180,7 @@ module _ {t : Types} (R : At t → At t → Type 0) (here : (a : At t) → R a a
   -- a packet that opened
   pub holds_received : (m : Meaning t) (coming : Coming) (space : SpaceId) (spin : Bool) (source token : List ℕ) (number : ℕ) (payload : List ℕ) (a : At t) → is_over a.state.life.state ≡ false → R a (received_after m coming space spin source token number payload a)
   holds_received m coming space spin source token number payload a lively =
-      packet_holds m (record { coming = coming; space = space; spin = spin; source = source; token = token; number = number; payload = payload }) a lively
+      packet_holds m (record { coming = coming; space = space; spin = spin; which = None; source = source; token = token; number = number; payload = payload }) a lively
 
   -- the packets of a datagram
   pub holds_pieces : (m : Meaning t) (coming : Coming) (items : List DatagramItem) (a : At t) → R a (pieces_after m coming items a)

@@ -32,7 +32,7 @@ use Rattle.qc_state.specs.Forms.{number_space, is_early}
 use Rattle.qc_state.specs.Keys.{epoch_in}
 use Rattle.qc_state.specs.Life.{is_open, is_over, rank_of}
 use Rattle.qc_state.specs.Lower.{bytes_came, flight_dropped, packet_flown, packets_settled, session_read, session_wrote, timer_fired, limits_learned, frame_handed, streams_closed, streams_stepped, datagrams_stepped, frames_sealed, ids_stepped}
-use Rattle.qc_state.specs.Moves.{Accept, Ack, Arm, Ask, Begin, Clock, Come, Confirm, PeerClosesToo, Enter, Establish, Expect, Fail, Finish, Fire, Fix, Forget, Give, Hear, IsTold, Learn, PeerCloses, MayMove, Move, Owe, Pace, Raise, Read, Ready, Release, Say, Seal, Shut, Skip, Take, Tell, Token, Want, Write, deeds_move, is_close, keys_move, life_move, lower_move, move_to, numbers_move, paths_move, setup_move, state_move, timers_move, waiting_move, Call, Hand, Post, Insert, Switch, Retire, Issue, Outlive, Hold, Spend, Probe}
+use Rattle.qc_state.specs.Moves.{Accept, Ack, Arm, Ask, Begin, Clock, Come, Confirm, PeerClosesToo, Enter, Establish, Expect, Fail, Finish, Fire, Fix, Forget, Give, Hear, IsTold, Learn, PeerCloses, MayMove, Move, Owe, Pace, Raise, Read, Ready, Release, Say, Seal, Shut, Skip, Take, Tell, Token, Want, Write, deeds_move, is_close, keys_move, life_move, lower_move, move_to, numbers_move, paths_move, setup_move, state_move, timers_move, waiting_move, Call, Hand, Post, Insert, Switch, Retire, Issue, Outlive, Hold, Spend, Probe, Discard, Unseal}
 use Rattle.qc_state.specs.Numbers.{began_at, next_number, received_number}
 use Rattle.qc_state.specs.Paths.{is_blocked, path_accepted, path_kept, path_received, path_sent, path_spun, peer_fixed, spun_by, path_named, path_capped}
 use Rattle.qc_state.specs.Recovering.{around_of, fired_by, settled_by, shows_validated}
@@ -41,7 +41,8 @@ use Rattle.qc_state.specs.Sending.{Choice, packet_size, rate_of}
 use Rattle.qc_state.specs.Spaces.{is_space}
 use Rattle.qc_state.specs.Types.{Types, Meaning}
 use Rattle.qc_state.specs.Verdicts.{verdict_of}
-use Rattle.qc_state.specs.View.{View, At}
+use Rattle.qc_state.specs.Updating.{unsealed_after}
+use Rattle.qc_state.specs.View.{View, At, at}
 use Rattle.qc_state.specs.Waiting.{waiting_without}
 use Rattle.qc_state.proofs.OpenPackets.{IsUnacked, given_ack, packet_received, packet_unacked, told_settled}
 use Rattle.qc_state.proofs.PacketMoves.{OpenPacket}
@@ -55,7 +56,7 @@ use Rattle.qc_laws.specs.RecoveryLaws.{AllMay, AreFlown, Fired, Kept, MayStep, R
 use Rattle.qc_laws.proofs.EndsHold.{ends_seal, known_keeps}
 use Rattle.qc_laws.proofs.HeardAcks.{Hears, HearsIn, flown_append, given_none, hears_in_next, hears_next, hears_packet, leads_append, may_append, none_here, none_in, sealed_hears, sent_append, to_recovery}
 use Rattle.qc_laws.proofs.KnownMoves.{IsFiredBy, IsKnownMove, IsSpentBy, IsToldBy, IsUncalled, is_called, known_calls, known_packets, packet_known, packet_uncalled}
-use Rattle.qc_laws.proofs.PieceLaws.{received_tells}
+use Rattle.qc_laws.proofs.PieceLaws.{opened_tells}
 use Rattle.qc_laws.proofs.StreamCalls.{handed_told}
 use Rattle.qc_laws.proofs.StreamSteps.{same_since}
 
@@ -190,6 +191,8 @@ module _ {t : Types} where
   move_parts m (Expect token) s k u may = (tt, refl, (λ id. refl))
   move_parts m (Enter id n v) s k u may = (tt, refl, (λ id. refl))
   move_parts m Fail s k u may = (tt, refl, (λ id. refl))
+  move_parts m (Unseal time n which fresh session) s k u may = (tt, refl, (λ id. refl))
+  move_parts m Discard s k u may = (tt, refl, (λ id. refl))
   move_parts m (Accept time id n e g v) s k u may =
       (tt, ap (λ (p : PathData t.C). record { recovery = s.lower.recovery; path = p }) (accepted_kept s.paths id v s.setup.fixed.side (nat_le (received_number s.numbers id) n) g.spin), (λ id. refl))
   move_parts m (Fix cid) s k u may = (tt, refl, (λ id. refl))
@@ -370,14 +373,14 @@ module _ {t : Types} (m : Meaning t) (Also : List Did → List (RecoveryStep t.C
   packet_part : (o : OpenPacket) (a : At t) → Part m Also (HearsIn o.space) a (packet_received m o a) → Part m Also Hears a (packet_received m o a)
   packet_part o a w =
       let v : Verdict = verdict_of a.state o.space o.source o.token o.number in
-      let told = received_tells m o.coming o.space o.spin o.source o.token o.number o.payload a in
+      let told = opened_tells m o.coming o.space o.source o.token o.spin o.which o.number o.payload a in
       record {
         since = w.since;
         appended = w.appended;
         steps = w.steps;
         fold = w.fold;
         hears = hears_packet o.space o.number v w.since told.others w.steps (same_since a.did w.since _ (sym w.appended ∙ told.appended)) told.one
-            (λ h. given_none told.others (told.given ∙ gifts_quiet m o.coming o.space o.spin o.source o.number o.payload v a.state h)) w.hears;
+            (λ h. given_none told.others (told.given ∙ gifts_quiet m o.coming o.space o.spin o.source o.number o.payload v (unsealed_after m o.coming.time o.which o.number (at a.state [])).state h)) w.hears;
         also = w.also;
       }
 

@@ -132,7 +132,7 @@ early_unskipped v x e = ap (λ (b : Bool). b && (next_number v x == v.filter.ski
 -- ---- the frames of a packet that isn't a 1-RTT packet
 
 -- none of them is one of the streams or of the connection ids, or a DATAGRAM
-record AreOwn (fs : List FrameValue) : Type 0 where
+pub record AreOwn (fs : List FrameValue) : Type 0 where
   pub streams : sealed_steps fs ≡ []
   pub cids : sealed_cids fs ≡ []
   pub posts : sealed_datagrams fs ≡ []
@@ -189,7 +189,7 @@ module _ {t : Types} where
   wait_own time s id [] w e = own_none
   wait_own time s id (f ∷ fs) w e = own_more f fs (waits_own time s id f w.0 e) (wait_own time (state_move (Take id (f ∷ [])) s) id fs w.1 e)
 
-  carried_own : (closing : Bool) (time : ℕ) (s : View t) (form : Form) (room : ℕ) (fs : List FrameValue) → Carries closing time s form room fs → is_space (number_space form) «Data» ≡ false → AreOwn fs
+  pub carried_own : (closing : Bool) (time : ℕ) (s : View t) (form : Form) (room : ℕ) (fs : List FrameValue) → Carries closing time s form room fs → is_space (number_space form) «Data» ≡ false → AreOwn fs
   carried_own closing time s form room fs (Carries.a_close owed gs n closes is) e = own_padded n fs gs is (record {
     streams = sealed_close time s (number_space form) room gs closes;
     cids = cids_close time s (number_space form) room gs closes;

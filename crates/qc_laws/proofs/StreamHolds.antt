@@ -31,11 +31,12 @@ use Rattle.qc_state.specs.Spaces.{is_space}
 use Rattle.qc_laws.specs.StreamLaws.{GivesStream, is_of, session_bytes}
 use Rattle.qc_state.specs.Types.{Types, Meaning}
 use Rattle.qc_state.specs.View.{View, At}
+use Rattle.qc_state.specs.Recovering.{settled_by}
 use Rattle.qc_laws.proofs.CryptoPlaces.{same_or}
 use Rattle.qc_state.proofs.Expired.{IsTimed, holds_timeout}
 use Rattle.qc_state.proofs.OpenPackets.{IsBeside, given_ack, given_read, packet_beside, packet_received}
 use Rattle.qc_state.proofs.PacketMoves.{IsInPacket, IsToldOf, OpenPacket}
-use Rattle.qc_laws.proofs.PieceLaws.{received_tells}
+use Rattle.qc_laws.proofs.PieceLaws.{opened_tells}
 use Rattle.qc_state.proofs.Probed.{begun_streams}
 use Rattle.qc_state.proofs.ReceivedMoves.{IsOutside}
 use Rattle.qc_laws.proofs.Receives.{datagram_holds}
@@ -187,7 +188,7 @@ module _ {t : Types} (id : SpaceId) where
       let w : Within (is_space id o.space) a (packet_received m o a) =
       packet_beside m o (Within (is_space id o.space)) (within_here (is_space id o.space)) (within_next (is_space id o.space)) (λ x b h beside may. move_within m o x b h beside) (λ x bytes b ready. gave_within m o x bytes b ready (same_or id o.space))
       (λ ack b among. ack_within m o (is_space id o.space) ack b) a lively in
-      let told = received_tells m o.coming o.space o.spin o.source o.token o.number o.payload a in
+      let told = opened_tells m o.coming o.space o.source o.token o.spin o.which o.number o.payload a in
       let first = same_since a.did w.since _ (sym w.appended ∙ told.appended) in
       record {
         since = w.since;

@@ -144,7 +144,7 @@ packet_loses : (packet : SentPacket) → list_all is_settled (packet_lost packet
 unfolding packet_lost
 packet_loses packet = settled_append (controls_lost packet.frames) (map meta_lost packet.stream_frames) (frames_lost packet.frames) (metas_lost packet.stream_frames)
 
-acked_all : (es : List Entry) → list_all is_settled (acked_steps es) ≡ true
+pub acked_all : (es : List Entry) → list_all is_settled (acked_steps es) ≡ true
 unfolding acked_steps
 acked_all [] = refl
 acked_all (e ∷ es) =

@@ -187,6 +187,9 @@ pub record Less (s s' : SpaceRecovery) : Type 0 where
   pub asked : s'.eliciting_at ≡ s.eliciting_at
   pub greatest : is_some s.greatest ≡ true → is_some s'.greatest ≡ true
 
+pub less_here : (s : SpaceRecovery) → Less s s
+less_here s = record { any = λ p h. h; asked = refl; greatest = λ h. h }
+
 no_more : (a b : Bool) → (a ≡ true → b ≡ true) → b ≡ false → a ≡ false
 no_more true b f h = let yes : b ≡ true = f refl in cc
 no_more false b f h = refl

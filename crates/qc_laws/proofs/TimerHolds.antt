@@ -28,7 +28,7 @@ use Rattle.qc_state.specs.Forms.{is_early, number_space}
 use Rattle.qc_state.specs.Headline.{deeds_of}
 use Rattle.qc_state.specs.Keys.{epoch_in, has_keys_for}
 use Rattle.qc_state.specs.Life.{is_drained, is_open}
-use Rattle.qc_state.specs.Moves.{Ack, Arm, Ask, Begin, Clock, Establish, Expect, Finish, Fire, Forget, Give, Hear, MayMove, Move, Pace, Probe, Raise, Release, ReportConnected, ReportDrained, ReportLost, ReportNotices, ReportReady, Say, Seal, Shut, Skip, Spend, Tell, Write, armed_after, armed_with, deeds_move, keys_move, move_to, paths_move, state_move, Call, Hold, ReportStreams, Post, ReportAllHeard, Outlive, Want, Issue}
+use Rattle.qc_state.specs.Moves.{Ack, Arm, Ask, Begin, Clock, Establish, Expect, Finish, Fire, Forget, Give, Hear, MayMove, Move, Pace, Probe, Raise, Release, ReportConnected, ReportDrained, ReportLost, ReportNotices, ReportReady, Say, Seal, Shut, Skip, Spend, Tell, Write, armed_after, armed_with, deeds_move, keys_move, move_to, paths_move, state_move, Call, Hold, ReportStreams, Post, ReportAllHeard, Outlive, Want, Issue, Discard}
 use Rattle.qc_state.specs.Numbers.{next_number}
 use Rattle.qc_state.specs.Paths.{is_blocked, path_kept}
 use Rattle.qc_state.specs.Receiving.{counted_after, cut_of, datagram_after, first_after, first_token, heard_after, pieces_after}
@@ -37,7 +37,7 @@ use Rattle.qc_state.specs.Run.{IsAllowed, IsStep, Run, began, called, close_afte
 use Rattle.qc_state.specs.Sending.{Choice, Died, Ending, Going, Held, Hushed, MayAll, MayEnd, MayFollow, MayOpen, MayProbe, MayStand, MayTransmit, Probed, Sent, Went, begun_after, drops_initial, ending_after, finished_after, flown_after, going_from, gone_after, handshake_left, initial_left, is_flown, is_key_nearly_used_up, next_segment, paced_until, packet_after, packets_after, probe_begun_after, probe_frames, probe_sealed, probed_after, sealed_in, spared_after, spent_after, told_sent, transmit_after, held_after}
 use Rattle.qc_state.specs.Stopping.{given_after, key_limit_error, killed_after}
 use Rattle.qc_laws.specs.TimerLaws.{KeepsTimer, TimerHolds, awaits_ack, elicits_in, has_asked, has_probe_keys, must_probe, sealed_since}
-use Rattle.qc_state.specs.Timeouts.{ack_expired, close_expired, idle_expired, loss_expired, pacing_expired, timeout_after, ids_expired, wanted_anew}
+use Rattle.qc_state.specs.Timeouts.{ack_expired, close_expired, idle_expired, loss_expired, pacing_expired, timeout_after, ids_expired, wanted_anew, keys_expired}
 use Rattle.qc_state.specs.Timers.{has_come}
 use Rattle.qc_state.specs.Types.{Types, Meaning}
 use Rattle.qc_state.specs.View.{View, At}
@@ -263,6 +263,7 @@ module _ {t : Types} where
   timed_blocked (Fire r) h a = refl
   timed_blocked (Arm at) h a = refl
   timed_blocked Pace h a = refl
+  timed_blocked Discard h a = refl
   timed_blocked Release h a = refl
   timed_blocked Outlive h a = refl
   timed_blocked (Want time count) h a = refl
@@ -291,20 +292,22 @@ module _ {t : Types} where
   outlived_keeps m free time a false = keeps_here free a
 
   alive_keeps : (m : Meaning t) (free : Bool) (time : ℕ) (a : At t) (b : Bool) → (free ≡ true → is_blocked a.state.paths ≡ false) →
-      Keeps free a (if b then a else ack_expired time (ids_expired time (pacing_expired time (close_expired time (idle_expired time (loss_expired m time a))))))
-  unfolding loss_expired idle_expired close_expired pacing_expired ids_expired ack_expired
+      Keeps free a (if b then a else ack_expired time (ids_expired time (pacing_expired time (keys_expired time (close_expired time (idle_expired time (loss_expired m time a)))))))
+  unfolding loss_expired idle_expired close_expired keys_expired pacing_expired ids_expired ack_expired
   alive_keeps m free time a true unblocked = keeps_here free a
   alive_keeps m free time a false unblocked =
       let b : At t = loss_expired m time a in
       let c : At t = idle_expired time b in
       let d : At t = close_expired time c in
-      let e : At t = pacing_expired time d in
+      let k : At t = keys_expired time d in
+      let e : At t = pacing_expired time k in
       let f : At t = ids_expired time e in
       keeps_next free a b _ (loss_keeps m free time a (has_come a.state.timers.loss_detection time) unblocked)
       (keeps_next free b c _ (idle_keeps m free lost.TimedOut b (has_come b.state.timers.idle time))
       (keeps_next free c d _ (plain_if m free (Raise state.Drained) c (has_come c.state.timers.close time) refl)
-      (keeps_next free d e _ (plain_if m free Pace d (has_come d.state.timers.pacing time) tt)
-      (keeps_next free e f _ (outlived_keeps m free time e (has_come e.state.timers.push_new_cid time)) (plain_if m free Release f (has_come f.state.timers.max_ack_delay time) tt)))))
+      (keeps_next free d k _ (plain_if m free Discard d (has_come d.state.timers.key_discard time) tt)
+      (keeps_next free k e _ (plain_if m free Pace k (has_come k.state.timers.pacing time) tt)
+      (keeps_next free e f _ (outlived_keeps m free time e (has_come e.state.timers.push_new_cid time)) (plain_if m free Release f (has_come f.state.timers.max_ack_delay time) tt))))))
 
   timeout_keeps : (m : Meaning t) (free : Bool) (time : ℕ) (a : At t) → (free ≡ true → is_blocked a.state.paths ≡ false) → Keeps free a (timeout_after m time a)
   unfolding timeout_after

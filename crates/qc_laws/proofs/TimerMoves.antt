@@ -32,31 +32,32 @@ use Rattle.qc_state.specs.Flight.{counts_in_flight, flown_packet, is_padding}
 use Rattle.qc_state.specs.Forms.{number_space}
 use Rattle.qc_state.specs.Life.{connected_reported, data_ready, drained_reported, identifiers_wanted, is_established, is_handshake, is_open, life_closed, life_drained, life_established, life_raised, lost_reported, notice_reported, notices_reported, rank_of, ready_reported, reason_given, token_learned, all_heard_reported, heard_reported, datagram_heard, is_drained}
 use Rattle.qc_state.specs.Lower.{bytes_came, flight_dropped, packet_flown, packets_settled, session_read, session_wrote, timer_fired, limits_learned, frame_handed, streams_closed, streams_stepped, event_told, events_told, datagrams_stepped, frames_sealed, ids_stepped}
-use Rattle.qc_state.specs.Moves.{Accept, Ack, AreNext, Arm, Begin, Establish, Fail, Finish, Fire, Forget, Give, Hear, IsTold, Move, PeerCloses, PeerClosesToo, Probe, Raise, Seal, Shut, Take, Tell, Write, armed_with, deeds_move, keys_move, life_move, lower_move, move_to, paths_move, setup_move, state_move, timers_move, waiting_move, Hand, told_to_streams, Insert, Switch, Retire, Issue, Say, Spend}
+use Rattle.qc_state.specs.Moves.{Accept, Ack, AreNext, Arm, Begin, Establish, Fail, Finish, Fire, Forget, Give, Hear, IsTold, Move, PeerCloses, PeerClosesToo, Probe, Raise, Seal, Shut, Take, Tell, Write, armed_with, deeds_move, keys_move, life_move, lower_move, move_to, paths_move, setup_move, state_move, timers_move, waiting_move, Hand, told_to_streams, Insert, Switch, Retire, Issue, Say, Spend, Unseal, Discard}
 use Rattle.qc_state.specs.Paths.{is_blocked, path_accepted, path_kept, path_spun, peer_fixed, path_named, path_capped}
-use Rattle.qc_state.specs.Recovering.{around_of, fired_by, is_validated_by_peer, loss_time, settled_by}
+use Rattle.qc_state.specs.Recovering.{around_of, fired_by, is_validated_by_peer, loss_time, settled_by, probe_timeout_now}
 use Rattle.qc_state.specs.Sending.{flown_after, is_flown, packet_size, sealed_in, spent_after}
 use Rattle.qc_laws.specs.TimerLaws.{FlightHolds, SpaceHolds, TimerHolds, awaits_ack, elicits_in, has_asked, has_probe_keys, must_probe, sealed_since}
-use Rattle.qc_state.specs.Timers.{clock_set, timers_accepted, timers_acking, timers_armed, timers_held, timers_holding, timers_paced, timers_released, timers_sealed, timers_issued, timers_outlived}
+use Rattle.qc_state.specs.Timers.{clock_set, timers_accepted, timers_acking, timers_armed, timers_held, timers_holding, timers_paced, timers_released, timers_sealed, timers_issued, timers_outlived, timers_keeping, timers_discarded}
 use Rattle.qc_state.specs.Types.{Types, Meaning}
 use Rattle.qc_state.specs.View.{View, At, at}
 use Rattle.qc_state.specs.Waiting.{waiting_without}
 use Rattle.rand_core.specs.Stream.{Stream}
 use Rattle.qc_state.specs.declared.keys.KeyGroup.{KeyGroup}
 use Rattle.qc_state.specs.declared.setup.Setup.{Setup}
-use Rattle.qc_state.specs.Keys.{NewKeys, failure_counted, form_in, has_keys, has_keys_for, key_used}
+use Rattle.qc_state.specs.Keys.{NewKeys, failure_counted, form_in, has_keys, has_keys_for, key_used, ring_of, sets_floor}
 use Rattle.qc_state.specs.Numbers.{next_number}
 use Rattle.qc_state.specs.Receiving.{is_below}
 use Rattle.qc_state.specs.Setup.{packet_drawn, parameters_known, token_expected, word_drawn}
 use Rattle.qc_state.specs.Spaces.{is_space}
 use Rattle.qc_state.proofs.Quieted.{quiet_blocked}
+use Rattle.qc_state.proofs.KeySteps.{RingMoves, acked_moves, discarded_moves, keeping_same, no_ring_moves, opened_moves, same_keys}
 use Rattle.qc_state.proofs.Probed.{begun_streams}
 use Rattle.qc_laws.proofs.CryptoPlaces.{dropped_highest, dropped_keys, used_highest}
 use Rattle.qc_laws.proofs.TimerProbes.{Before, before_probes, dropped_keyed, failed_same, forget_before, form_keyed, given_below, given_confirmed, given_more, given_probe, probe_parts, unknown_confirmed, used_same}
 use Rattle.qc_laws.proofs.CryptoBuffers.{or_either, or_left, or_right}
 use Rattle.qc_laws.proofs.EndsHold.{low_open}
 use Rattle.qc_laws.proofs.KnownMoves.{IsFiredBy, IsSettledBy}
-use Rattle.qc_laws.proofs.TimerFlights.{Less, ack_less, armed_alone, armed_some, dropped_each, fire_less, kept_asked, kept_greatest, less_holds, sent_each}
+use Rattle.qc_laws.proofs.TimerFlights.{Less, ack_less, armed_alone, armed_some, dropped_each, fire_less, kept_asked, kept_greatest, less_holds, sent_each, less_here}
 use Rattle.qc_laws.proofs.StreamCalls.{handed_told, heard_state, named_state, retired_state}
 use Rattle.qc_state.specs.Datagrams.{tells_datagram}
 use Rattle.qc_cids.specs.Cids.{asks_one, next_token, token_by}
@@ -294,13 +295,14 @@ module _ {t : Types} where
   IsPlain m _ s = Unit {0}
 
   plain_timer : (m : Meaning t) (x : Move t) (s : View t) → IsPlain m x s → is_open (life_move x s).state ≡ true → (timers_move x s).loss_detection ≡ s.timers.loss_detection
-  unfolding timers_move life_move life_closed life_drained life_raised clock_set timers_paced timers_held timers_released timers_accepted timers_outlived
+  unfolding timers_move life_move life_closed life_drained life_raised clock_set timers_paced timers_held timers_released timers_accepted timers_outlived timers_keeping timers_discarded
   plain_timer m (Seal time form n size fs) s h o = absurd h
   plain_timer m (Arm at) s h o = absurd h
   plain_timer m (Accept time id n e g v) s h o = held_loss _ _ time
   plain_timer m (Issue time given) s h o = issued_loss (is_drained s.life.state) s.timers _ time
   plain_timer m (Shut time close) s h o = cc
   plain_timer m (PeerCloses time) s h o = cc
+  plain_timer m (Unseal time n which fresh session) s h o = keeping_same (λ (v : Timers). v.loss_detection) (sets_floor which fresh (ring_of s.keys)) s.timers (probe_timeout_now s «Data») time (λ v probe at. refl)
   plain_timer m (Raise to) s h o = let end : is_open to ≡ false = ap is_open h in cc
   plain_timer m _ s h o = refl
 
@@ -352,11 +354,11 @@ module _ {t : Types} where
 
   -- ---- what stays of each space
 
-  less_space : (s s' : View t) (id : SpaceId) → s'.keys ≡ s.keys → Less (recovery.space_of id s.lower.recovery) (recovery.space_of id s'.lower.recovery) → SpaceHolds s id → SpaceHolds s' id
+  less_space : (s s' : View t) (id : SpaceId) → RingMoves s.keys s'.keys → Less (recovery.space_of id s.lower.recovery) (recovery.space_of id s'.lower.recovery) → SpaceHolds s id → SpaceHolds s' id
   less_space s s' id keys less h = record {
     flight = less_holds (recovery.space_of id s.lower.recovery) (recovery.space_of id s'.lower.recovery) less h.flight;
-    keyed = λ e. ap (λ (k : KeyGroup t.H t.P). has_keys k id) keys ∙ h.keyed (ap (λ (x : Option ℕ). is_some x) (sym less.asked) ∙ e);
-    below = λ e. ap (λ (k : KeyGroup t.H t.P). is_below k.highest id) keys ∙ h.below (ap (λ (k : KeyGroup t.H t.P). has_keys k id) (sym keys) ∙ e);
+    keyed = λ e. same_keys s.keys s'.keys keys id ∙ h.keyed (ap (λ (x : Option ℕ). is_some x) (sym less.asked) ∙ e);
+    below = λ e. ap (λ (x : SpaceId). is_below x id) keys.highest ∙ h.below (sym (same_keys s.keys s'.keys keys id) ∙ e);
   }
 
   settled_less : (m : Meaning t) (space id : SpaceId) (n : ℕ) (after : After t.C) (s : View t) → IsSettledBy m space after s → Less (recovery.space_of id s.lower.recovery) (recovery.space_of id (state_move (Ack space n after) s).lower.recovery)
@@ -394,24 +396,26 @@ module _ {t : Types} where
   plain_spaces : (m : Meaning t) (x : Move t) (s : View t) → IsPlain m x s → Spaces s → Spaces (state_move x s)
   unfolding state_move lower_move keys_move bytes_came session_read limits_learned frame_handed streams_closed streams_stepped datagrams_stepped event_told events_told frames_sealed ids_stepped
   plain_spaces m (Seal time form n size fs) s k h = absurd k
-  plain_spaces m (Ack space n after) s k h = λ id. less_space s (state_move (Ack space n after) s) id refl (settled_less m space id n after s k) (h id)
-  plain_spaces m (Fire after) s k h = λ id. less_space s (state_move (Fire after) s) id refl (fired_less m id after s k) (h id)
+  plain_spaces m (Ack space n after) s k h = λ id. less_space s (state_move (Ack space n after) s) id (acked_moves s.keys space n) (settled_less m space id n after s k) (h id)
+  plain_spaces m (Fire after) s k h = λ id. less_space s (state_move (Fire after) s) id (no_ring_moves s.keys s.keys refl) (fired_less m id after s k) (h id)
   plain_spaces m (Forget space) s k h = forget_space space s h
   plain_spaces m (Write bytes keys session) s k h = λ id. write_space bytes keys session s k id (h id)
   plain_spaces m (Begin space opens) s k h = λ id. begun_space space opens s id (h id)
   plain_spaces m Fail s k h = λ id. fail_space s id (h id)
+  plain_spaces m (Unseal time n which fresh session) s k h = λ id. less_space s (state_move (Unseal time n which fresh session) s) id (opened_moves s.keys which n fresh) (less_here (recovery.space_of id s.lower.recovery)) (h id)
+  plain_spaces m Discard s k h = λ id. less_space s (state_move Discard s) id (discarded_moves s.keys) (less_here (recovery.space_of id s.lower.recovery)) (h id)
   plain_spaces m _ s k h = λ id. record { flight = (h id).flight; keyed = (h id).keyed; below = (h id).below }
 
   -- ---- where a client has to probe, it had to before
 
-  less_before : (s s' : View t) → s'.setup ≡ s.setup → s'.keys ≡ s.keys → ((id : SpaceId) → Less (recovery.space_of id s.lower.recovery) (recovery.space_of id s'.lower.recovery)) → Before s s'
+  less_before : (s s' : View t) → s'.setup ≡ s.setup → RingMoves s.keys s'.keys → ((id : SpaceId) → Less (recovery.space_of id s.lower.recovery) (recovery.space_of id s'.lower.recovery)) → Before s s'
   unfolding has_asked has_probe_keys
   less_before s s' setup keys less = record {
     side = ap (λ (x : Setup Stream). x.fixed.side) setup;
     greatest = λ id g. (less id).greatest g;
     asked = λ e. sym (λ i. (is_some ((less Initial).asked i) || is_some ((less Handshake).asked i)) && not (is_some ((less «Data»).asked i))) ∙ e;
-    confirmed = λ e. ap (λ (k : KeyGroup t.H t.P). has_keys k «Data» && not (has_keys k Handshake)) keys ∙ e;
-    keys = λ e a u. ap (λ (k : KeyGroup t.H t.P). if recovery.is_handshake k.highest then has_keys k Handshake else has_keys k Initial) (sym keys) ∙ e;
+    confirmed = λ e. (λ i. same_keys s.keys s'.keys keys «Data» i && not (same_keys s.keys s'.keys keys Handshake i)) ∙ e;
+    keys = λ e a u. sym (λ i. if recovery.is_handshake (keys.highest i) then same_keys s.keys s'.keys keys Handshake i else same_keys s.keys s'.keys keys Initial i) ∙ e;
   }
 
   write_before : (bytes : List ℕ) (keys : NewKeys t.H t.P) (session : t.S) (s : View t) → AreNext keys s.keys.highest → Spaces s → Before s (state_move (Write bytes keys session) s)
@@ -435,11 +439,11 @@ module _ {t : Types} where
 
   settled_before : (m : Meaning t) (space : SpaceId) (n : ℕ) (after : After t.C) (s : View t) → IsSettledBy m space after s → Before s (state_move (Ack space n after) s)
   unfolding state_move keys_move setup_move
-  settled_before m space n after s k = less_before s (state_move (Ack space n after) s) refl refl (λ id. settled_less m space id n after s k)
+  settled_before m space n after s k = less_before s (state_move (Ack space n after) s) refl (acked_moves s.keys space n) (λ id. settled_less m space id n after s k)
 
   fired_before : (m : Meaning t) (after : FiredAfter t.C) (s : View t) → IsFiredBy m after s → Before s (state_move (Fire after) s)
   unfolding state_move keys_move setup_move
-  fired_before m after s k = less_before s (state_move (Fire after) s) refl refl (λ id. fired_less m id after s k)
+  fired_before m after s k = less_before s (state_move (Fire after) s) refl (no_ring_moves s.keys s.keys refl) (λ id. fired_less m id after s k)
 
   plain_probe : (m : Meaning t) (x : Move t) (s : View t) → IsPlain m x s → Spaces s → must_probe (state_move x s) ≡ true → must_probe s ≡ true
   unfolding must_probe is_validated_by_peer has_probe_keys has_asked state_move lower_move keys_move setup_move bytes_came session_read limits_learned frame_handed streams_closed streams_stepped datagrams_stepped event_told events_told failure_counted has_keys has_keys_for form_in token_expected parameters_known word_drawn frames_sealed ids_stepped
@@ -448,6 +452,8 @@ module _ {t : Types} where
   plain_probe m (Fire after) s k h e = before_probes s (state_move (Fire after) s) (fired_before m after s k) e
   plain_probe m (Forget space) s k h e = before_probes s (state_move (Forget space) s) (forget_move space s k) e
   plain_probe m (Write bytes keys session) s k h e = before_probes s (state_move (Write bytes keys session) s) (write_before bytes keys session s k h) e
+  plain_probe m (Unseal time n which fresh session) s k h e = before_probes s (state_move (Unseal time n which fresh session) s) (less_before s (state_move (Unseal time n which fresh session) s) refl (opened_moves s.keys which n fresh) (λ id. less_here (recovery.space_of id s.lower.recovery))) e
+  plain_probe m Discard s k h e = before_probes s (state_move Discard s) (less_before s (state_move Discard s) refl (discarded_moves s.keys) (λ id. less_here (recovery.space_of id s.lower.recovery))) e
   plain_probe m (Begin space opens) s k h e = subst (λ (l : Lower t.S). must_probe (record s { lower = l }) ≡ true) (begun_streams space opens s) e
   plain_probe m _ s k h e = e
 

@@ -1,44 +1,35 @@
 -- A datagram whose first packet was cut off already does what the whole datagram does.
-use Rattle.std.proofs.Common.{◌≡◌, ℕ, ◌+◌, List, [], ◌∷◌, length, take, drop, refl, ap, sym, ◌∙◌, subst, Bool, true, false, Option, Some, None, Result, Ok, Err, if◌then◌else◌, arith, length-append}
+use Rattle.std.proofs.Common.{◌≡◌, ℕ, ◌+◌, List, [], ◌∷◌, length, take, drop, ap, sym, ◌∙◌, subst, Bool, true, false, Option, Some, None, Result, Ok, Err, if◌then◌else◌, arith, length-append}
 use Rattle.std.proofs.lemmas.List.{take-append-drop}
-use Rattle.std.specs.Prelude.{◌&&◌, ◌==◌, nat_le, nat_lt, is_ok}
+use Rattle.std.specs.Prelude.{◌&&◌, nat_le, nat_lt, is_ok}
 use Rattle.std.specs.declared.net.SocketAddr.{SocketAddr}
-use Rattle.qc_base.specs.Mask.{first_byte}
 use Rattle.qc_base.specs.Reading.{read_on}
 use Rattle.qc_base.specs.declared.side.SpaceId.{SpaceId}
 use Rattle.qc_base.specs.declared.side.SpaceId.TheVariants as space
-use Rattle.qc_crypto.specs.Mates.{Opening as OpeningFunction}
 use Rattle.qc_header.proofs.Datagrams.{pieces_first}
 use Rattle.qc_header.proofs.FrontPiece.{piece_ends}
 use Rattle.qc_header.specs.HeaderGrammar.{DatagramItem}
-use Rattle.qc_header.specs.HeaderSpelling.{header_number}
 use Rattle.qc_header.specs.HeaderReading.{Heading, header_at, packet_at, piece_at}
 use Rattle.qc_header.specs.Piece.{Piece, space_of}
-use Rattle.qc_header.specs.Unprotected.{header_end, header_from, unprotected}
-use Rattle.qc_header.specs.declared.header.Header.{Header}
 use Rattle.qc_header.specs.declared.protected.PacketDecodeError.{PacketDecodeError}
 use Rattle.qc_header.specs.declared.protected.PacketDecodeError.TheVariants.{InvalidHeader}
 use Rattle.qc_header.specs.declared.protected.ProtectedHeader.{ProtectedHeader}
-use Rattle.qc_header.specs.declared.protected.ProtectedHeader.TheVariants as protected
-use Rattle.qc_packet.specs.OpenedPacket.{reserved_bits}
-use Rattle.qc_rings.specs.Keyed.{Keyed}
-use Rattle.qc_state.specs.declared.form.Form.{Form}
+use Rattle.qc_rings.specs.declared.which.Which.{Which}
 use Rattle.qc_state.specs.declared.coming.Coming.{Coming}
 use Rattle.qc_state.specs.declared.deeds.Verdict.TheVariants as verdict
 use Rattle.qc_state.specs.declared.opening.Opening.{Opening}
-use Rattle.qc_state.specs.declared.opening.Opening.TheVariants.{Unreadable, Reserved, Opened}
+use Rattle.qc_state.specs.declared.opening.Opening.TheVariants.{Opened}
 use Rattle.qc_state.specs.declared.transmit.TheConstants.{DATAGRAM_SIZE}
-use Rattle.qc_state.specs.Forms.{number_space}
-use Rattle.qc_state.specs.Keys.{opening_key, ring_of, unmasking_key}
 use Rattle.qc_state.specs.Life.{is_handshake, is_over}
 use Rattle.qc_state.specs.Moves.{Expect, life_move, move_to, paths_move, setup_move, state_move}
-use Rattle.qc_state.specs.Numbers.{received_number}
-use Rattle.qc_state.specs.Opening.{judged, names_next, opened_at, opened_by, opened_in, opened_form, opened_under, opening_of, source_of, spin_of, token_of, whole_number}
+use Rattle.qc_state.specs.Opening.{opening_of}
 use Rattle.qc_state.specs.Paths.{is_blocked, same_address}
 use Rattle.qc_state.specs.Receiving.{counted_after, cut_of, datagram_after, event_after, first_after, first_packet_after, first_token, has_first_ids, heard_after, is_readable, lets_in, opened_first, opening_after, piece_after, piece_told, pieces_after, received_after, token_in_first, token_in_items}
 use Rattle.qc_state.specs.Setup.{is_first_awaited, token_expected}
 use Rattle.qc_state.specs.Types.{Types, Meaning}
+use Rattle.qc_state.specs.Updating.{unsealed_after}
 use Rattle.qc_state.specs.View.{View, At}
+use Rattle.qc_state.proofs.InitialOpened.{plain_one}
 use Rattle.qc_laws.proofs.HarmlessBytes.{expected_lets, first_ids, first_space, let_in, same_opening}
 use Rattle.qc_laws.proofs.HarmlessTests.{not_over, tests_hold}
 
@@ -64,57 +55,7 @@ cut_whole : (len : ℕ) (versions : List ℕ) (grease : Bool) (a : List ℕ) (p 
 unfolding piece_at
 cut_whole len versions grease a p z e = subst (IsWhole a) e (read_whole a (header_at (length a) len versions grease a))
 
--- ---- an Initial packet has no spin bit
-
-abbrev HasNoSpin : Opening → Type 0
-HasNoSpin (Opened source token spin number payload) = spin ≡ false
-HasNoSpin _ = Unit {0}
-
-initial_spin : (h : ProtectedHeader) (offset : ℕ) (bytes : List ℕ) → space_of h ≡ Some space.Initial → spin_of (header_from h offset bytes) ≡ false
-initial_spin (protected.Initial dst_cid src_cid token_start token_len version) offset bytes e = refl
-initial_spin (protected.Long ty dst_cid src_cid version) offset bytes e = refl
-initial_spin (protected.Retry dst_cid src_cid version) offset bytes e = refl
-initial_spin (protected.Short spin dst_cid) offset bytes e = cc
-initial_spin (protected.VersionNegotiate random src_cid dst_cid) offset bytes e = refl
-
-bits_spin : (b : Bool) (source token : List ℕ) (spin : Bool) (number : ℕ) (payload : List ℕ) → spin ≡ false → HasNoSpin (if b then Opened source token spin number payload else Reserved number)
-bits_spin true source token spin number payload e = e
-bits_spin false source token spin number payload e = tt
-
-judged_spin : (h : Header) (number : ℕ) (header_data : List ℕ) (o : Option (List ℕ)) → spin_of h ≡ false → HasNoSpin (judged h number header_data o)
-judged_spin h number header_data None e = tt
-judged_spin h number header_data (Some payload) e = bits_spin (reserved_bits h (first_byte header_data) == 0) (source_of h) (token_of h) (spin_of h) number payload e
-
-either_spin : (b : Bool) (x : Opening) → HasNoSpin x → HasNoSpin (if b then Unreadable else x)
-either_spin true x h = tt
-either_spin false x h = h
-
-module _ {P : Type 0} where
-  opened_spin : (opening : P → OpeningFunction) (plain : Option P) (ring : Option (Keyed P)) (rx : ℕ) (h : Header) (header_data sealed : List ℕ) → spin_of h ≡ false → HasNoSpin (opened_by opening plain ring rx h header_data sealed)
-  unfolding opened_by
-  opened_spin opening plain ring rx h header_data sealed e = either_spin (names_next h ring (whole_number (header_number h) rx)) _ (judged_spin h _ header_data _ e)
-
-module _ {H P : Type 0} where
-  under_spin : (mask : H → List ℕ → List ℕ) (opening : P → OpeningFunction) (key : H) (plain : Option P) (ring : Option (Keyed P)) (rx : ℕ) (p : Piece) → space_of p.header ≡ Some space.Initial → HasNoSpin (opened_under mask opening key plain ring rx p)
-  unfolding opened_under
-  under_spin mask opening key plain ring rx p e =
-      let bytes : List ℕ = unprotected (mask key) p in
-      let front : List ℕ = take (header_end p bytes) bytes in
-      either_spin (nat_lt (length p.bytes) (p.pn_offset + 20)) _ (opened_spin opening plain ring rx (header_from p.header p.pn_offset front) front (drop (header_end p bytes) bytes) (initial_spin p.header p.pn_offset front e))
-
-  in_spin : (mask : H → List ℕ → List ℕ) (opening : P → OpeningFunction) (key : Option H) (plain : Option P) (ring : Option (Keyed P)) (rx : ℕ) (p : Piece) → space_of p.header ≡ Some space.Initial → HasNoSpin (opened_in mask opening key plain ring rx p)
-  in_spin mask opening None plain ring rx p e = tt
-  in_spin mask opening (Some key) plain ring rx p e = under_spin mask opening key plain ring rx p e
-
 module _ {t : Types} (m : Meaning t) where
-  at_spin : (s : View t) (form : Option Form) (p : Piece) → space_of p.header ≡ Some space.Initial → HasNoSpin (opened_at m s form p)
-  at_spin s None p e = tt
-  at_spin s (Some f) p e = in_spin m.mask m.opening (unmasking_key s.keys f) (opening_key s.keys f) (ring_of s.keys) (received_number s.numbers (number_space f)) p e
-
-  no_spin : (s : View t) (p : Piece) (source token : List ℕ) (spin : Bool) (number : ℕ) (payload : List ℕ) → space_of p.header ≡ Some space.Initial → opening_of m s p ≡ Opened source token spin number payload → spin ≡ false
-  unfolding opening_of
-  no_spin s p source token spin number payload is_initial opens = subst HasNoSpin opens (at_spin s (opened_form p.header) p is_initial)
-
   -- ---- a datagram that was cut
 
   -- the packets of a datagram are its first one and those of the bytes behind it
@@ -153,46 +94,48 @@ module _ {t : Types} (m : Meaning t) where
       (holds.0, holds.1, first_ids m s p token (has_first_ids s p.header) (sym (ap (token_in_items m s) (cut_first s bytes p behind e)) ∙ holds.2))
 
   -- its first packet does what a packet does that opened in the Initial space
-  first_piece : (coming : Coming) (p : Piece) (source token : List ℕ) (spin : Bool) (number : ℕ) (payload : List ℕ) (a : At t) →
-      is_over a.state.life.state ≡ false → space_of p.header ≡ Some space.Initial → opening_of m a.state p ≡ Opened source token spin number payload →
+  first_piece : (coming : Coming) (p : Piece) (source token : List ℕ) (spin : Bool) (which : Option Which) (number : ℕ) (payload : List ℕ) (a : At t) →
+      is_over a.state.life.state ≡ false → space_of p.header ≡ Some space.Initial → opening_of m a.state p ≡ Opened source token spin which number payload →
       piece_after m coming p a ≡ received_after m coming space.Initial false source token number payload a
   unfolding piece_after
-  first_piece coming p source token spin number payload a over is_initial opens =
+  first_piece coming p source token spin which number payload a over is_initial opens =
+      let plain : (spin ≡ false) × (which ≡ None) = plain_one m a.state p source token spin which number payload is_initial opens in
       ap (λ (x : Bool). if x then piece_told (space_of p.header) None verdict.Ignored a else opening_after m coming (space_of p.header) (opening_of m a.state p) a) over
       ∙ ap (λ (x : Option SpaceId). opening_after m coming x (opening_of m a.state p) a) is_initial
       ∙ ap (λ (o : Opening). opening_after m coming (Some space.Initial) o a) opens
-      ∙ ap (λ (b : Bool). received_after m coming space.Initial b source token number payload a) (no_spin a.state p source token spin number payload is_initial opens)
+      ∙ ap (λ (w : Option Which). received_after m coming space.Initial spin source token number payload (unsealed_after m coming.time w number a)) plain.1
+      ∙ ap (λ (b : Bool). received_after m coming space.Initial b source token number payload a) plain.0
 
-  first_event : (coming : Coming) (p : Piece) (source token : List ℕ) (spin : Bool) (number : ℕ) (payload behind : List ℕ) (a : At t) →
-      lets_in a.state coming.remote ≡ true → is_over a.state.life.state ≡ false → space_of p.header ≡ Some space.Initial → opening_of m a.state p ≡ Opened source token spin number payload →
+  first_event : (coming : Coming) (p : Piece) (source token : List ℕ) (spin : Bool) (which : Option Which) (number : ℕ) (payload behind : List ℕ) (a : At t) →
+      lets_in a.state coming.remote ≡ true → is_over a.state.life.state ≡ false → space_of p.header ≡ Some space.Initial → opening_of m a.state p ≡ Opened source token spin which number payload →
       event_after m coming p behind a
       ≡ counted_after coming.time (is_blocked a.state.paths) (length p.bytes + length behind) (pieces_after m coming (cut_of a.state behind) (received_after m coming space.Initial false source token number payload a))
   unfolding event_after
-  first_event coming p source token spin number payload behind a lets over is_initial opens =
+  first_event coming p source token spin which number payload behind a lets over is_initial opens =
       ap (λ (x : Bool). if x then counted_after coming.time (is_blocked a.state.paths) (length p.bytes + length behind) (pieces_after m coming (cut_of a.state behind) (piece_after m coming p a)) else a) lets
-      ∙ ap (λ (x : At t). counted_after coming.time (is_blocked a.state.paths) (length p.bytes + length behind) (pieces_after m coming (cut_of a.state behind) x)) (first_piece coming p source token spin number payload a over is_initial opens)
+      ∙ ap (λ (x : At t). counted_after coming.time (is_blocked a.state.paths) (length p.bytes + length behind) (pieces_after m coming (cut_of a.state behind) x)) (first_piece coming p source token spin which number payload a over is_initial opens)
 
   -- that its token is expected changes nothing of how its datagram is cut, nor of whether it is let in
-  expected_heard : (coming : Coming) (p : Piece) (source token : List ℕ) (spin : Bool) (number : ℕ) (payload behind bytes : List ℕ) (a : At t) →
+  expected_heard : (coming : Coming) (p : Piece) (source token : List ℕ) (spin : Bool) (which : Option Which) (number : ℕ) (payload behind bytes : List ℕ) (a : At t) →
       piece_at (length a.state.setup.fixed.local_cid) (a.state.setup.fixed.version ∷ []) a.state.setup.fixed.grease_quic_bit bytes ≡ Ok (p, behind) →
-      first_token m a.state coming.remote bytes ≡ Some token → opening_of m a.state p ≡ Opened source token spin number payload →
+      first_token m a.state coming.remote bytes ≡ Some token → opening_of m a.state p ≡ Opened source token spin which number payload →
       first_packet_after m coming source token number payload behind (length p.bytes + length behind) a ≡ heard_after m coming bytes (move_to (Expect token) a)
   unfolding first_packet_after opened_first move_to state_move life_move paths_move setup_move token_expected
-  expected_heard coming p source token spin number payload behind bytes a e is_token opens =
+  expected_heard coming p source token spin which number payload behind bytes a e is_token opens =
       let says = token_says coming.remote p behind bytes token a.state e is_token in
       let b : At t = move_to (Expect token) a in
       let lets : lets_in b.state coming.remote ≡ true = expected_lets a.state token coming.remote ∙ let_in a.state coming.remote says.0 says.1 in
-      sym (first_event coming p source token spin number payload behind b lets (not_over a.state.life.state says.0) (first_space a.state p says.2) (same_opening m a.state token p ∙ opens))
+      sym (first_event coming p source token spin which number payload behind b lets (not_over a.state.life.state says.0) (first_space a.state p says.2) (same_opening m a.state token p ∙ opens))
       ∙ event_heard coming p behind bytes b e
 
-  pub first_whole : (coming : Coming) (p : Piece) (source token : List ℕ) (spin : Bool) (number : ℕ) (payload behind bytes : List ℕ) (a : At t) →
+  pub first_whole : (coming : Coming) (p : Piece) (source token : List ℕ) (spin : Bool) (which : Option Which) (number : ℕ) (payload behind bytes : List ℕ) (a : At t) →
       piece_at (length a.state.setup.fixed.local_cid) (a.state.setup.fixed.version ∷ []) a.state.setup.fixed.grease_quic_bit bytes ≡ Ok (p, behind) → is_first_awaited a.state.setup ≡ true →
-      first_token m a.state coming.remote bytes ≡ Some token → opening_of m a.state p ≡ Opened source token spin number payload →
+      first_token m a.state coming.remote bytes ≡ Some token → opening_of m a.state p ≡ Opened source token spin which number payload →
       first_packet_after m coming source token number payload behind (length bytes) a ≡ datagram_after m coming bytes a
   unfolding datagram_after
-  first_whole coming p source token spin number payload behind bytes a e awaits is_token opens =
+  first_whole coming p source token spin which number payload behind bytes a e awaits is_token opens =
       let size : length p.bytes + length behind ≡ length bytes = cut_whole (length a.state.setup.fixed.local_cid) (a.state.setup.fixed.version ∷ []) a.state.setup.fixed.grease_quic_bit bytes p behind e in
       ap (λ (n : ℕ). first_packet_after m coming source token number payload behind n a) (sym size)
-      ∙ expected_heard coming p source token spin number payload behind bytes a e is_token opens
+      ∙ expected_heard coming p source token spin which number payload behind bytes a e is_token opens
       ∙ ap (λ (x : Option (List ℕ)). first_after m coming bytes x a) (sym is_token)
       ∙ ap (λ (x : Bool). if x then first_after m coming bytes (first_token m a.state coming.remote bytes) a else heard_after m coming bytes a) (sym awaits)

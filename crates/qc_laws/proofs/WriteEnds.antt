@@ -115,7 +115,7 @@ from_ends P id s st h (OwnOpened dir is before) = subst (λ (z : Stream). SideEn
 from_ends P id s st h (PeerOpened dir is before) = subst (λ (z : Stream). SideEnds P z.sending) (sym is) (peer_ends P dir s)
 
 stepped_ends : (P : Type 0) (id : ℕ) (x : Step) (s : StreamsState) → (finishes id x ≡ true → P) → EndsAt P id s → SteppedAt id x s → EndsAt P id (after_step x s)
-stepped_ends P id x s told h (Gone none) = subst (λ (o : Option Stream). StreamEnds P o) (sym none) tt
+stepped_ends P id x s told h (Gone none why) = subst (λ (o : Option Stream). StreamEnds P o) (sym none) tt
 stepped_ends P id x s told h (There st next from stepped is) =
     subst (λ (o : Option Stream). StreamEnds P o) (sym is) (side_stepped P id x st.sending next.sending told stepped.sending (from_ends P id s st h from))
 

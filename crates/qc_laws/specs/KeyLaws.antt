@@ -10,6 +10,7 @@ abbrev pub IsWithinLimit : Option KeyUse → Type 0
 IsWithinLimit usage = IfSome usage (λ (u : KeyUse). u.sealed ≤ u.limit)
 
 module _ {H P : Type 0} where
-  -- so it is with the keys of each form; of 1-RTT keys with those of their epoch
+  -- So it is with the keys of each form; of 1-RTT keys with those of their epoch. As the epoch never falls, and each begins with nothing sealed, the
+  -- key of no epoch seals more.
   abbrev pub KeysHold : KeyGroup H P → Type 0
   KeysHold v = (form : Form) → IsWithinLimit (usage_of v form)

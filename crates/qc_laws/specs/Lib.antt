@@ -1,5 +1,6 @@
 pub mod AckLaws
 pub mod AckedLaws
+pub mod BytesLaws
 pub mod CidLaws
 pub mod CryptoLaws
 pub mod DatagramLaws
@@ -18,5 +19,6 @@ pub mod SealLaws
 pub mod StreamLaws
 pub mod StreamsLaws
 pub mod TimerLaws
+pub mod UpdateLaws
 pub mod WindowLaws
 pub mod WriteLaws

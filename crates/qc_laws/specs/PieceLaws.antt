@@ -20,7 +20,7 @@ use Rattle.qc_state.specs.declared.deeds.Verdict.TheVariants as verdict
 use Rattle.qc_state.specs.declared.input.Input.{Input}
 use Rattle.qc_state.specs.declared.input.Input.TheVariants as input
 use Rattle.qc_state.specs.declared.opening.Opening.{Opening}
-use Rattle.qc_state.specs.declared.opening.Opening.TheVariants.{Unreadable, Unopened, Reserved, Opened}
+use Rattle.qc_state.specs.declared.opening.Opening.TheVariants.{Unreadable, Unopened, Reserved, Untimely, Opened}
 use Rattle.qc_state.specs.declared.trace.Step.{Step}
 use Rattle.qc_state.specs.Life.{is_over}
 use Rattle.qc_state.specs.Ids.{insert_stop, retire_stop, switches_for}
@@ -32,6 +32,7 @@ use Rattle.qc_state.specs.Receiving.{accepted_after, crypto_stop, cut_of, fixed_
 use Rattle.qc_state.specs.Recovering.{settled_by}
 use Rattle.qc_state.specs.Run.{IsStep, began}
 use Rattle.qc_state.specs.Types.{Types, Meaning}
+use Rattle.qc_state.specs.Updating.{unsealed_after}
 use Rattle.qc_state.specs.Verdicts.{verdict_of}
 use Rattle.qc_state.specs.View.{View, At, at}
 
@@ -178,15 +179,18 @@ module _ {t : Types} where
   opening_deed s space Unreadable = did.Piece space None verdict.Ignored
   opening_deed s space Unopened = did.Piece space None verdict.Failure
   opening_deed s space (Reserved number) = did.Piece space (Some number) verdict.BadBits
-  opening_deed s (Some id) (Opened source token spin number payload) = did.Piece (Some id) (Some number) (verdict_of s id source token number)
-  opening_deed s None (Opened source token spin number payload) = did.Piece None None verdict.Ignored
+  opening_deed s space (Untimely number) = did.Piece space (Some number) verdict.BadUpdate
+  opening_deed s (Some id) (Opened source token spin which number payload) = did.Piece (Some id) (Some number) (verdict_of s id source token number)
+  opening_deed s None (Opened source token spin which number payload) = did.Piece None None verdict.Ignored
 
+  -- what it gives, behind the step that it makes of the ring
   abbrev pub opening_gifts : Meaning t → Coming → View t → Option SpaceId → Opening → List Did
   opening_gifts m coming s space Unreadable = []
   opening_gifts m coming s space Unopened = []
   opening_gifts m coming s space (Reserved number) = []
-  opening_gifts m coming s (Some id) (Opened source token spin number payload) = gifts_by m coming id spin source number payload (verdict_of s id source token number) s
-  opening_gifts m coming s None (Opened source token spin number payload) = []
+  opening_gifts m coming s space (Untimely number) = []
+  opening_gifts m coming s (Some id) (Opened source token spin which number payload) = gifts_by m coming id spin source number payload (verdict_of s id source token number) (unsealed_after m coming.time which number (at s [])).state
+  opening_gifts m coming s None (Opened source token spin which number payload) = []
 
   -- the same of a packet, which is ignored once the connection is over
   abbrev pub piece_deed : Meaning t → View t → Piece → Did

@@ -8,6 +8,7 @@ ghost use Rattle.qc_header.specs.Piece.{Piece};
 ghost use Rattle.qc_path.specs.Arrived.{Remembers, Window, is_among};
 ghost use Rattle.qc_laws.specs.AckLaws.{AckHolds, EachHoldsAck};
 ghost use Rattle.qc_laws.specs.AckedLaws.{AcksFrames};
+ghost use Rattle.qc_laws.specs.BytesLaws.{KeepsWritten};
 ghost use Rattle.qc_laws.specs.CidLaws.{HasNewIds, KeepsLength, TellsIssued, UsesPeers};
 ghost use Rattle.qc_laws.specs.CryptoLaws.{KeepsBytes};
 ghost use Rattle.qc_laws.specs.DatagramLaws.{DatagramHolds};
@@ -25,6 +26,7 @@ ghost use Rattle.qc_laws.specs.PieceLaws.{TellsDatagram, TellsPiece, given_in, p
 ghost use Rattle.qc_state.specs.Receiving.{datagram_after, event_after, first_packet_after, first_token, piece_after};
 ghost use Rattle.qc_laws.specs.PostLaws.{FoldsPosts, HasNewDatagrams, SealsSent, TakesTrace};
 ghost use Rattle.qc_laws.specs.ReadLaws.{HasNewStreams, ReadsTrace};
+ghost use Rattle.qc_rings.specs.declared.which.Which.{Which};
 ghost use Rattle.qc_laws.specs.RecoveryLaws.{EachSettlesOnce, Recovers};
 ghost use Rattle.qc_laws.specs.SealLaws.{EachSealsAnswer, KeepsFields, SealsBetween};
 ghost use Rattle.qc_base.specs.declared.side.Side.{Side};
@@ -37,6 +39,7 @@ ghost use Rattle.qc_state.specs.Setup.{is_first_awaited};
 ghost use Rattle.qc_laws.specs.StreamLaws.{GivesStream};
 ghost use Rattle.qc_laws.specs.StreamsLaws.{FoldsStreams};
 ghost use Rattle.qc_laws.specs.TimerLaws.{KeepsTimer};
+ghost use Rattle.qc_laws.specs.UpdateLaws.{AreLast, FoldsKeys, KeepsEpochs};
 ghost use Rattle.qc_laws.specs.WindowLaws.{EachKeepsWindow};
 ghost use Rattle.qc_laws.specs.WriteLaws.{SealsWritten};
 ghost use Rattle.qc_state.specs.View.{View, At, at};
@@ -120,6 +123,17 @@ pub fn keys_hold<U: Suite>()
     ensures { (s last : View ⟦<U as Means>⟧.types) (k : ℕ) (is : List Input) (xs : List Step) → Run ⟦<U as Means>⟧.meaning k s is xs last → KeysHold s.keys → KeysHold last.keys }
 {}
 
+/// A law, which runs no code. Over a run the 1-RTT keys are what their own steps leave, one after the other, and each step may be made as its
+/// turn comes: they are given once; a packet is sealed under a key that may seal one more; an update of the peer's is followed only where the one
+/// before was answered. The steps of sealed packets are those of the 1-RTT packets that were sealed, with their epochs, and the steps of opened
+/// ones and of acknowledgements those that the deeds tell: each in order, none left out, and none made up. So their epoch never falls, and
+/// 1-RTT packets are sealed under keys of epochs that never do (RFC 9001, 6).
+pub fn keys_are_folded<U: Suite>()
+    ensures folded { (s last : View ⟦<U as Means>⟧.types) (k : ℕ) (is : List Input) (xs : List Step) → Run ⟦<U as Means>⟧.meaning k s is xs last → AreLast s → FoldsKeys xs s last }
+    ensures epochs { (s last : View ⟦<U as Means>⟧.types) (k : ℕ) (is : List Input) (xs : List Step) → Run ⟦<U as Means>⟧.meaning k s is xs last → AreLast s → KeepsEpochs xs s last }
+    ensures last { (s last : View ⟦<U as Means>⟧.types) (k : ℕ) (is : List Input) (xs : List Step) → Run ⟦<U as Means>⟧.meaning k s is xs last → AreLast s → AreLast last }
+{}
+
 /// A law, which runs no code. Over a run a connection of which an end has closed comes to its end: while it is closed, or drains, the
 /// close timer stands (RFC 9000, 10.2), and once it has drained, no timer does; and a close is owed only where an end has closed.
 pub fn ends_hold<U: Suite>()
@@ -177,6 +191,15 @@ pub fn reads_are_what_came<U: Suite>()
 /// 3.1).
 pub fn seals_what_was_written<U: Suite>()
     ensures { (s last : View ⟦<U as Means>⟧.types) (k : ℕ) (is : List Input) (xs : List Step) → Run ⟦<U as Means>⟧.meaning k s is xs last → HasNewStreams s → SealsWritten is xs }
+{}
+
+/// A law, which runs no code. Over a run from new streams on no byte is forgotten that the application wrote: while the connection is open,
+/// each byte that the inputs wrote on a stream, and none of them reset it, waits to be sealed, is in flight or was acknowledged. It waits where
+/// its stream keeps it and it never was sealed, or was lost since; it is in flight where a packet in flight was sealed with a STREAM frame that
+/// has it; and it was acknowledged where such a packet is one of those that recovery's steps acknowledged, each by an ACK that an admitted
+/// packet of its space had (RFC 9000, 2.2, 3.1 and 13.3).
+pub fn written_bytes_are_kept<U: Suite>()
+    ensures { (s last : View ⟦<U as Means>⟧.types) (k : ℕ) (is : List Input) (xs : List Step) → Run ⟦<U as Means>⟧.meaning k s is xs last → Ends s → HasNewStreams s → KeepsWritten ⟦<U as Means>⟧.meaning is xs s last }
 {}
 
 /// A law, which runs no code. Over a run from new streams on flow control is kept: what was written on each stream and on all together lies
@@ -241,10 +264,11 @@ pub fn datagrams_are_sealed<U: Suite>()
     ensures fields { (s last : View ⟦<U as Means>⟧.types) (k : ℕ) (is : List Input) (xs : List Step) → Run ⟦<U as Means>⟧.meaning k s is xs last → KeepsFields s last }
 {}
 
-/// A law, which runs no code. Over a run an ACK of 1-RTT packets is held back for 25 ms at most: its timer is set with the packet that asks
-/// for it, and stands until it comes, and then the ACK is owed, where there is something to acknowledge; unless an ACK was sealed, in
-/// whatever space. And where a packet that elicits an acknowledgement came since the last ACK, one is owed or held back, where it was so
-/// at the start (RFC 9000, 13.2.1).
+/// A law, which runs no code. Over a run an ACK of 1-RTT packets is asked for behind a step just where one of the packets that the step
+/// tells of was accepted and elicits it by its payload, or where it was asked for before and the step sealed none of 1-RTT packets. Behind
+/// each step an ACK that is asked for is owed or held back, where it was so at the start. One that is owed stays owed until one of 1-RTT
+/// packets is sealed. One is held back for 25 ms at most: its timer is set with the packet that asks for it, and stands until it comes, and
+/// then the ACK is owed, where there is something to acknowledge; unless an ACK was sealed, in whatever space (RFC 9000, 13.2.1).
 pub fn held_acks_wait<U: Suite>()
     ensures each { (s last : View ⟦<U as Means>⟧.types) (k : ℕ) (is : List Input) (xs : List Step) → Run ⟦<U as Means>⟧.meaning k s is xs last → AckHolds s → EachHoldsAck ⟦<U as Means>⟧.meaning k s is xs last }
     ensures kept { (s last : View ⟦<U as Means>⟧.types) (k : ℕ) (is : List Input) (xs : List Step) → Run ⟦<U as Means>⟧.meaning k s is xs last → AckHolds s → AckHolds last }
@@ -329,5 +353,5 @@ pub fn events_are_datagrams<U: Suite>()
 /// A law, which runs no code. Where a server's first packet is awaited, and a datagram may hold it: once that packet was cut from
 /// the datagram and opened, it does what the datagram does as a whole.
 pub fn first_packets_are_datagrams<U: Suite>()
-    ensures { (a : At ⟦<U as Means>⟧.types) (coming : Coming) (p : Piece) (source token : List ℕ) (spin : Bool) (number : ℕ) (payload behind bytes : List ℕ) → piece_at (length a.state.setup.fixed.local_cid) (a.state.setup.fixed.version ∷ []) a.state.setup.fixed.grease_quic_bit bytes ≡ Ok (p, behind) → is_first_awaited a.state.setup ≡ true → first_token ⟦<U as Means>⟧.meaning a.state coming.remote bytes ≡ Some token → opening_of ⟦<U as Means>⟧.meaning a.state p ≡ Opened source token spin number payload → first_packet_after ⟦<U as Means>⟧.meaning coming source token number payload behind (length bytes) a ≡ datagram_after ⟦<U as Means>⟧.meaning coming bytes a }
+    ensures { (a : At ⟦<U as Means>⟧.types) (coming : Coming) (p : Piece) (source token : List ℕ) (spin : Bool) (which : Option Which) (number : ℕ) (payload behind bytes : List ℕ) → piece_at (length a.state.setup.fixed.local_cid) (a.state.setup.fixed.version ∷ []) a.state.setup.fixed.grease_quic_bit bytes ≡ Ok (p, behind) → is_first_awaited a.state.setup ≡ true → first_token ⟦<U as Means>⟧.meaning a.state coming.remote bytes ≡ Some token → opening_of ⟦<U as Means>⟧.meaning a.state p ≡ Opened source token spin which number payload → first_packet_after ⟦<U as Means>⟧.meaning coming source token number payload behind (length bytes) a ≡ datagram_after ⟦<U as Means>⟧.meaning coming bytes a }
 {}

@@ -12,4 +12,5 @@ pub use laws::{
     posts_are_folded, reads_are_what_came, recovery_is_folded, runs_join,
     sealed_datagrams_were_sent, seals_what_was_written, session_is_given_its_stream, steps_tell,
     streams_are_folded, streams_stay_within, taken_datagrams_came, window_is_kept,
+    written_bytes_are_kept,
 };

@@ -18,6 +18,7 @@ use Rattle.qc_header.specs.declared.protected.PacketDecodeError.{PacketDecodeErr
 use Rattle.qc_header.specs.declared.protected.ProtectedHeader.{ProtectedHeader}
 use Rattle.qc_header.specs.declared.protected.ProtectedHeader.TheVariants.{Initial, Long, Retry, Short, VersionNegotiate}
 use Rattle.qc_header.proofs.Datagrams.{pieces_none, pieces_fault}
+use Rattle.qc_rings.specs.declared.which.Which.{Which}
 use Rattle.qc_state.specs.declared.coming.Coming.{Coming}
 use Rattle.qc_state.specs.declared.deeds.Did.{Did}
 use Rattle.qc_state.specs.declared.deeds.Verdict.TheVariants as verdict
@@ -35,6 +36,7 @@ use Rattle.qc_state.specs.Setup.{is_first_awaited, ideal_setup, token_expected}
 use Rattle.qc_state.specs.declared.setup.Setup.{Setup}
 use Rattle.qc_state.specs.Types.{Types, Meaning}
 use Rattle.qc_state.specs.View.{View, At, at}
+use Rattle.qc_state.proofs.InitialOpened.{names_none}
 
 -- a packet with the ids of a first one is an Initial packet
 initial_space : (dst_cid src_cid : List ℕ) (header : ProtectedHeader) → is_initial_with dst_cid src_cid header ≡ true → space_of header ≡ Some space.Initial
@@ -83,6 +85,13 @@ pub awaits_ideal : {R : Type 0} (stream : R → Stream) (s : Setup R) → is_fir
 unfolding is_first_awaited ideal_setup
 awaits_ideal stream s h = h
 
+-- a packet with a first one's ids that opened names no keys of the ring
+module _ {t : Types} (m : Meaning t) where
+  pub first_names_none : (s : View t) (p : Piece) (o : Opening) (source token : List ℕ) (spin : Bool) (which : Option Which) (number : ℕ) (payload : List ℕ) →
+      has_first_ids s p.header ≡ true → o ≡ opening_of m s p → o ≡ Opened source token spin which number payload → opening_of m s p ≡ Opened source token spin None number payload
+  unfolding has_first_ids
+  first_names_none s p o source token spin which number payload ids = names_none m s p o source token spin which number payload (initial_space s.setup.fixed.first_cid s.paths.current.remote_cid p.header ids)
+
 module _ {t : Types} (m : Meaning t) where
   -- no token: the datagram isn't taken
   pub not_taken : (s : View t) (remote : SocketAddr) (bytes : List ℕ) → is_first_awaited s.setup ≡ true → first_token m s remote bytes ≡ None → false ≡ is_taken m s remote bytes
@@ -126,7 +135,7 @@ module _ {t : Types} (m : Meaning t) where
 
   -- it may be one
   token_is : (c : Cutting) (s : View t) (remote : SocketAddr) (bytes : List ℕ) (p : Piece) (rest : Option (BytesMut Global)) (source token : List ℕ) (spin : Bool) (number : ℕ) (payload : List ℕ) → Cuts s c → front_of c bytes ≡ Ok (p, rest_of rest) →
-      (is_handshake s.life.state && (nat_le DATAGRAM_SIZE (length bytes) && same_address s.paths.current.remote remote)) ≡ true → has_first_ids s p.header ≡ true → opening_of m s p ≡ Opened source token spin number payload → first_token m s remote bytes ≡ Some token
+      (is_handshake s.life.state && (nat_le DATAGRAM_SIZE (length bytes) && same_address s.paths.current.remote remote)) ≡ true → has_first_ids s p.header ≡ true → opening_of m s p ≡ Opened source token spin None number payload → first_token m s remote bytes ≡ Some token
   unfolding first_token token_in_first
   token_is c s remote bytes p rest source token spin number payload h e may ids opens =
       ap (λ (b : Bool). if b then token_in_items m s (cut_of s bytes) else None) may
@@ -136,14 +145,14 @@ module _ {t : Types} (m : Meaning t) where
 
   pub first_taken : (c : Cutting) (s : View t) (remote : SocketAddr) (bytes : List ℕ) (len : ℕ) (may : Bool) (p : Piece) (rest : Option (BytesMut Global)) (source token : List ℕ) (spin : Bool) (number : ℕ) (payload : List ℕ) →
       is_first_awaited s.setup ≡ true → Cuts s c → front_of c bytes ≡ Ok (p, rest_of rest) →
-      may ≡ (is_handshake s.life.state && (nat_le DATAGRAM_SIZE len && same_address s.paths.current.remote remote)) → len ≡ length bytes → may ≡ true → has_first_ids s p.header ≡ true → opening_of m s p ≡ Opened source token spin number payload →
+      may ≡ (is_handshake s.life.state && (nat_le DATAGRAM_SIZE len && same_address s.paths.current.remote remote)) → len ≡ length bytes → may ≡ true → has_first_ids s p.header ≡ true → opening_of m s p ≡ Opened source token spin None number payload →
       true ≡ is_taken m s remote bytes
   unfolding is_taken
   first_taken c s remote bytes len may p rest source token spin number payload awaits h e is is_len holds ids opens =
       rw (awaits, token_is c s remote bytes p rest source token spin number payload h e (may_is s remote bytes len may is is_len ∙ holds) ids opens) refl
 
   -- its first packet does what a packet does that opened
-  first_piece : (coming : Coming) (p : Piece) (source token : List ℕ) (spin : Bool) (number : ℕ) (payload : List ℕ) (a : At t) → is_handshake a.state.life.state ≡ true → has_first_ids a.state p.header ≡ true → opening_of m a.state p ≡ Opened source token spin number payload →
+  first_piece : (coming : Coming) (p : Piece) (source token : List ℕ) (spin : Bool) (number : ℕ) (payload : List ℕ) (a : At t) → is_handshake a.state.life.state ≡ true → has_first_ids a.state p.header ≡ true → opening_of m a.state p ≡ Opened source token spin None number payload →
       piece_after m coming p a ≡ received_after m coming space.Initial spin source token number payload a
   unfolding piece_after has_first_ids
   first_piece coming p source token spin number payload a shakes ids opens =
@@ -153,7 +162,7 @@ module _ {t : Types} (m : Meaning t) where
 
   -- its packets do what they do
   heard_packets : (coming : Coming) (c : Cutting) (bytes : List ℕ) (p : Piece) (rest : Option (BytesMut Global)) (source token : List ℕ) (spin : Bool) (number : ℕ) (payload : List ℕ) (a : At t) → Cuts a.state c → front_of c bytes ≡ Ok (p, rest_of rest) →
-      is_handshake a.state.life.state ≡ true → same_address a.state.paths.current.remote coming.remote ≡ true → has_first_ids a.state p.header ≡ true → opening_of m a.state p ≡ Opened source token spin number payload →
+      is_handshake a.state.life.state ≡ true → same_address a.state.paths.current.remote coming.remote ≡ true → has_first_ids a.state p.header ≡ true → opening_of m a.state p ≡ Opened source token spin None number payload →
       heard_after m coming bytes a ≡ counted_after coming.time (is_blocked a.state.paths) (length bytes) (pieces_after m coming (others_of c rest) (received_after m coming space.Initial spin source token number payload a))
   unfolding heard_after lets_in
   heard_packets coming c bytes p rest source token spin number payload a h e shakes same ids opens =
@@ -165,7 +174,7 @@ module _ {t : Types} (m : Meaning t) where
 
   -- that the token is expected changes nothing of that
   heard_first : (coming : Coming) (c : Cutting) (bytes : List ℕ) (p : Piece) (rest : Option (BytesMut Global)) (source token : List ℕ) (spin : Bool) (number : ℕ) (payload : List ℕ) (a : At t) → Cuts a.state c → front_of c bytes ≡ Ok (p, rest_of rest) →
-      is_handshake a.state.life.state ≡ true → same_address a.state.paths.current.remote coming.remote ≡ true → has_first_ids a.state p.header ≡ true → opening_of m a.state p ≡ Opened source token spin number payload →
+      is_handshake a.state.life.state ≡ true → same_address a.state.paths.current.remote coming.remote ≡ true → has_first_ids a.state p.header ≡ true → opening_of m a.state p ≡ Opened source token spin None number payload →
       heard_after m coming bytes (move_to (Expect token) a) ≡ counted_after coming.time (is_blocked a.state.paths) (length bytes) (pieces_after m coming (others_of c rest) (received_after m coming space.Initial spin source token number payload (move_to (Expect token) a)))
   unfolding has_first_ids opening_of move_to state_move numbers_move keys_move life_move paths_move setup_move token_expected
   heard_first coming c bytes p rest source token spin number payload a h e shakes same ids opens =
@@ -177,7 +186,7 @@ module _ {t : Types} (m : Meaning t) where
 
   pub first_heard : (coming : Coming) (c : Cutting) (bytes : List ℕ) (len : ℕ) (may : Bool) (p : Piece) (rest : Option (BytesMut Global)) (source token copy : List ℕ) (spin : Bool) (number : ℕ) (payload : List ℕ) (blocked : Bool) (s s1 : View t) (ds : List Did) (b d : At t) (e' : At t) →
       is_first_awaited s.setup ≡ true → Cuts s c → front_of c bytes ≡ Ok (p, rest_of rest) →
-      may ≡ (is_handshake s.life.state && (nat_le DATAGRAM_SIZE len && same_address s.paths.current.remote coming.remote)) → len ≡ length bytes → may ≡ true → has_first_ids s p.header ≡ true → opening_of m s p ≡ Opened source token spin number payload →
+      may ≡ (is_handshake s.life.state && (nat_le DATAGRAM_SIZE len && same_address s.paths.current.remote coming.remote)) → len ≡ length bytes → may ≡ true → has_first_ids s p.header ≡ true → opening_of m s p ≡ Opened source token spin None number payload →
       copy ≡ token → s1 ≡ state_move (Expect copy) s → b ≡ received_after m coming space.Initial spin source token number payload (at s1 ds) → d ≡ pieces_after m coming (others_of c rest) b → blocked ≡ is_blocked s.paths → e' ≡ counted_after coming.time blocked len d →
       e' ≡ datagram_after m coming bytes (at s ds)
   unfolding datagram_after

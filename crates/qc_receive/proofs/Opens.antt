@@ -1,6 +1,6 @@
 -- From what the opener of packets says to what becomes of one.
 use Rattle.std.proofs.Common.{◌≡◌, ℕ, ◌+◌, List, length, take, drop, refl, ap, sym, ◌∙◌, subst, Bool, true, false, Option, Some, None, Result, Ok, Err, IsSome, is_some, nat_lt}
-use Rattle.std.specs.Prelude.{◌&&◌, ◌||◌, ◌==◌, if◌then◌else◌, nat_le, IfSome, IfOk}
+use Rattle.std.specs.Prelude.{◌&&◌, ◌==◌, if◌then◌else◌, IfSome, IfOk}
 use Rattle.std.specs.declared.alloc.AllocError.{AllocError}
 use Rattle.qc_base.specs.Mask.{first_byte}
 use Rattle.qc_base.specs.declared.packet_number.PacketNumber.{PacketNumber}
@@ -18,14 +18,14 @@ use Rattle.qc_packet.specs.declared.decrypt.DecryptPacketResult.{DecryptPacketRe
 use Rattle.qc_packet.specs.declared.decrypt.OpenError.{OpenError}
 use Rattle.qc_packet.specs.declared.decrypt.OpenError.TheVariants as error
 use Rattle.qc_packet.specs.declared.unprotect.UnprotectHeaderResult.{UnprotectHeaderResult}
-use Rattle.qc_packet.specs.OpenedPacket.{IsNumberOf, are_next, is_bad_update, is_unanswered, key_named, opened_by as opened_under_key, opening_answer, payload_after, reserved_bits, result_of, which_in}
+use Rattle.qc_packet.specs.OpenedPacket.{IsNumberOf, is_bad_update, key_named, opened_by as opened_under_key, opening_answer, payload_after, reserved_bits, result_of, which_in}
 use Rattle.qc_packet.specs.Unprotected.{is_cut, is_key_missing, told_as, told_in, IsUnprotected}
 use Rattle.qc_rings.specs.Keyed.{Keyed}
 use Rattle.qc_rings.specs.declared.which.Which.{Which}
 use Rattle.qc_receive.specs.Told.{opening_told}
 use Rattle.qc_state.specs.declared.opening.Opening.{Opening}
-use Rattle.qc_state.specs.declared.opening.Opening.TheVariants.{Unreadable, Reserved, Opened}
-use Rattle.qc_state.specs.Opening.{judged, names_next, opened_form, opened_under, source_of, spin_of, token_of, whole_number}
+use Rattle.qc_state.specs.declared.opening.Opening.TheVariants.{Unreadable, Reserved, Untimely, Opened}
+use Rattle.qc_state.specs.Opening.{judged, opened_form, opened_under, source_of, spin_of, token_of, whole_number}
 use Rattle.qc_state.specs.Opening as state
 
 -- a packet of a form that is taken is protected
@@ -57,25 +57,23 @@ told_never true true r b e h some = cc
 told_never true false r b e h some = ap first_told (sym some ∙ h)
 told_never false short r b e h some = e
 
--- what opening told of a packet with this header whose reserved bits are or aren't 0
-told_as_judged : (b : Bool) (h : Header) (told : DecryptPacketResult) (number : ℕ) (payload : List ℕ) (p : Packet) → p.header ≡ h → told.number ≡ number → p.payload.items ≡ payload →
-    opening_told (if b then Ok (Some told) else Err error.Reserved) number p ≡ (if b then Opened (source_of h) (token_of h) (spin_of h) number payload else Reserved number)
-told_as_judged true h told number payload p is_h is_number is_payload = λ i. Opened (source_of (is_h i)) (token_of (is_h i)) (spin_of (is_h i)) (is_number i) (is_payload i)
-told_as_judged false h told number payload p is_h is_number is_payload = refl
+-- what opening told of a packet with this header whose reserved bits are or aren't 0, which shows an update that wasn't allowed, or doesn't
+told_as_judged : (b bad : Bool) (h : Header) (told : DecryptPacketResult) (number : ℕ) (which : Option Which) (payload : List ℕ) (p : Packet) → p.header ≡ h → told.number ≡ number → p.payload.items ≡ payload →
+    opening_told (if b then (if bad then Err error.KeyUpdate else Ok (Some told)) else Err error.Reserved) number which p
+    ≡ (if b then (if bad then Untimely number else Opened (source_of h) (token_of h) (spin_of h) which number payload) else Reserved number)
+told_as_judged true false h told number which payload p is_h is_number is_payload = λ i. Opened (source_of (is_h i)) (token_of (is_h i)) (spin_of (is_h i)) which (is_number i) (is_payload i)
+told_as_judged true true h told number which payload p is_h is_number is_payload = refl
+told_as_judged false bad h told number which payload p is_h is_number is_payload = refl
 
 module _ {P : Type 0} where
-  -- a packet that doesn't name the next keys shows no bad update
-  no_update : (which : Option Which) (ring : Option (Keyed P)) (rx number : ℕ) → are_next which ≡ false → is_bad_update which ring rx number ≡ false
-  no_update which ring rx number e = ap (λ (b : Bool). b && (nat_le number rx || is_unanswered ring)) e
-
   -- what becomes of it where its key opened it, or didn't
-  told_by : (h : Header) (bytes : List ℕ) (ring : Option (Keyed P)) (rx number : ℕ) (opened : Option (List ℕ)) (sealed : List ℕ) (p : Packet) → are_next (which_in h ring number) ≡ false → p.header ≡ h →
-      p.payload.items ≡ payload_after sealed opened → opening_told (opening_answer h (first_byte bytes) ring rx number (is_some opened)) number p ≡ judged h number bytes opened
+  told_by : (h : Header) (bytes : List ℕ) (ring : Option (Keyed P)) (rx number : ℕ) (opened : Option (List ℕ)) (sealed : List ℕ) (p : Packet) → p.header ≡ h → p.payload.items ≡ payload_after sealed opened →
+      opening_told (opening_answer h (first_byte bytes) ring rx number (is_some opened)) number (which_in h ring number) p
+      ≡ judged h number bytes (which_in h ring number) (is_bad_update (which_in h ring number) ring rx number) opened
   unfolding opening_answer
-  told_by h bytes ring rx number None sealed p e is_h is_payload = refl
-  told_by h bytes ring rx number (Some payload) sealed p e is_h is_payload =
-      rw (no_update (which_in h ring number) ring rx number e)
-      (told_as_judged (reserved_bits h (first_byte bytes) == 0) h (result_of (which_in h ring number) ring number) number payload p is_h refl is_payload)
+  told_by h bytes ring rx number None sealed p is_h is_payload = refl
+  told_by h bytes ring rx number (Some payload) sealed p is_h is_payload =
+      told_as_judged (reserved_bits h (first_byte bytes) == 0) (is_bad_update (which_in h ring number) ring rx number) h (result_of (which_in h ring number) ring number) number (which_in h ring number) payload p is_h refl is_payload
 
   -- a form without a number names no key
   unnumbered : (h : Header) (plain : Option P) (ring : Option (Keyed P)) (number : ℕ) → header_number h ≡ None → key_named h plain None ring number ≡ None
@@ -91,32 +89,36 @@ module _ {P : Type 0} (opening : P → OpeningFunction) (plain : Option P) (ring
   abbrev payload_by : Packet → ℕ → Option (List ℕ)
   payload_by p n = opened_under_key opening (key_named p.header plain None ring n) n p.header_data p.payload.items
 
-  -- what becomes of a packet that doesn't name the next keys, whether its form has a number or not
-  opened_of : (low : Option PacketNumber) (p q : Packet) (number : ℕ) (answer : Result (Option DecryptPacketResult) OpenError) → header_number p.header ≡ low → are_next (which_in p.header ring number) ≡ false →
+  -- what becomes of a packet with this number
+  abbrev judged_by : Packet → ℕ → Opening
+  judged_by p n = judged p.header n p.header_data (which_in p.header ring n) (is_bad_update (which_in p.header ring n) ring rx n) (payload_by p n)
+
+  -- so it is whether its form has a number or not
+  opened_of : (low : Option PacketNumber) (p q : Packet) (number : ℕ) (answer : Result (Option DecryptPacketResult) OpenError) → header_number p.header ≡ low →
       (IsSome low → IsNumberOf low rx number) → (header_number p.header ≡ None → (answer ≡ Ok None) × (q ≡ p)) →
       ((n : ℕ) → IsNumberOf (header_number p.header) rx n → answer ≡ opening_answer p.header (first_byte p.header_data) ring rx n (is_some (payload_by p n))) →
       ((n : ℕ) → IsNumberOf (header_number p.header) rx n → q.payload.items ≡ payload_after p.payload.items (payload_by p n)) → q.header ≡ p.header →
-      opening_told answer number q ≡ judged p.header number p.header_data (payload_by p number)
+      opening_told answer number (which_in p.header ring number) q ≡ judged_by p number
   unfolding opened_under_key
-  opened_of None p q number answer is_low e near unprotected answers payload is_h =
-      ap (λ (x : Result (Option DecryptPacketResult) OpenError). opening_told x number q) (unprotected is_low).0
-      ∙ sym (ap (λ (x : Option P). judged p.header number p.header_data (opened_under_key opening x number p.header_data p.payload.items)) (unnumbered p.header plain ring number is_low))
-  opened_of (Some low) p q number answer is_low e near unprotected answers payload is_h =
+  opened_of None p q number answer is_low near unprotected answers payload is_h =
+      let which : Option Which = which_in p.header ring number in
+      ap (λ (x : Result (Option DecryptPacketResult) OpenError). opening_told x number which q) (unprotected is_low).0
+      ∙ sym (ap (λ (x : Option P). judged p.header number p.header_data which (is_bad_update which ring rx number) (opened_under_key opening x number p.header_data p.payload.items)) (unnumbered p.header plain ring number is_low))
+  opened_of (Some low) p q number answer is_low near unprotected answers payload is_h =
       let of : IsNumberOf (header_number p.header) rx number = subst (λ (x : Option PacketNumber). IsNumberOf x rx number) (sym is_low) (near refl) in
-      ap (λ (x : Result (Option DecryptPacketResult) OpenError). opening_told x number q) (answers number of)
-      ∙ told_by p.header p.header_data ring rx number (payload_by p number) p.payload.items q e is_h (payload number of)
+      ap (λ (x : Result (Option DecryptPacketResult) OpenError). opening_told x number (which_in p.header ring number) q) (answers number of)
+      ∙ told_by p.header p.header_data ring rx number (payload_by p number) p.payload.items q is_h (payload number of)
 
-  pub opened_is : (p q : Packet) (number : ℕ) (named : Bool) (answer : Result (Option DecryptPacketResult) OpenError) → number ≡ whole_number (header_number p.header) rx →
-      (IsSome (header_number p.header) → IsNumberOf (header_number p.header) rx number) → named ≡ names_next p.header ring number → named ≡ false → (header_number p.header ≡ None → (answer ≡ Ok None) × (q ≡ p)) →
+  pub opened_is : (p q : Packet) (number : ℕ) (which : Option Which) (answer : Result (Option DecryptPacketResult) OpenError) → number ≡ whole_number (header_number p.header) rx →
+      (IsSome (header_number p.header) → IsNumberOf (header_number p.header) rx number) → which ≡ which_in p.header ring number → (header_number p.header ≡ None → (answer ≡ Ok None) × (q ≡ p)) →
       ((n : ℕ) → IsNumberOf (header_number p.header) rx n → answer ≡ opening_answer p.header (first_byte p.header_data) ring rx n (is_some (payload_by p n))) →
       ((n : ℕ) → IsNumberOf (header_number p.header) rx n → q.payload.items ≡ payload_after p.payload.items (payload_by p n)) → q.header ≡ p.header →
-      opening_told answer number q ≡ state.opened_by opening plain ring rx p.header p.header_data p.payload.items
+      opening_told answer number which q ≡ state.opened_by opening plain ring rx p.header p.header_data p.payload.items
   unfolding state.opened_by
-  opened_is p q number named answer is_number near is_named other unprotected answers payload is_h =
-      let e : are_next (which_in p.header ring number) ≡ false = sym is_named ∙ other in
-      opened_of (header_number p.header) p q number answer refl e near unprotected answers payload is_h
-      ∙ sym (ap (λ (b : Bool). if b then Unreadable else judged p.header number p.header_data (payload_by p number)) e)
-      ∙ ap (λ (n : ℕ). if names_next p.header ring n then Unreadable else judged p.header n p.header_data (payload_by p n)) is_number
+  opened_is p q number which answer is_number near is_which unprotected answers payload is_h =
+      ap (λ (w : Option Which). opening_told answer number w q) is_which
+      ∙ opened_of (header_number p.header) p q number answer refl near unprotected answers payload is_h
+      ∙ ap (λ (n : ℕ). judged_by p n) is_number
 
 module _ {H P : Type 0} (mask : H → List ℕ → List ℕ) (opening : P → OpeningFunction) (key : H) (plain : Option P) (ring : Option (Keyed P)) (rx : ℕ) (p : Piece) where
   cut_is : nat_lt (length p.bytes) (p.pn_offset + 20) ≡ true → opened_under mask opening key plain ring rx p ≡ Unreadable

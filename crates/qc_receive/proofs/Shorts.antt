@@ -19,13 +19,13 @@ use Rattle.qc_header.specs.declared.header.Header.TheVariants as header
 use Rattle.qc_header.specs.declared.protected.ProtectedHeader.TheVariants.{Short}
 use Rattle.qc_header.proofs.Datagrams.{pieces_none}
 use Rattle.qc_header.proofs.ReadHeaders.{short_piece}
-use Rattle.qc_packet.specs.OpenedPacket.{key_named, opened_by as opened_under_key, ring_key}
+use Rattle.qc_packet.specs.OpenedPacket.{key_named, opened_by as opened_under_key}
 use Rattle.qc_rings.specs.Keyed.{Keyed}
 use Rattle.qc_state.specs.declared.coming.Coming.{Coming}
 use Rattle.qc_state.specs.declared.opening.Opening.{Opening}
 use Rattle.qc_state.specs.declared.opening.Opening.TheVariants.{Unreadable, Unopened}
 use Rattle.qc_state.specs.Expansion.{expanded}
-use Rattle.qc_state.specs.Opening.{judged, names_next, opened_by, opened_under}
+use Rattle.qc_state.specs.Opening.{opened_by, opened_numbered, opened_under}
 use Rattle.qc_state.specs.Paths.{is_blocked}
 use Rattle.qc_state.specs.Receiving.{counted_after, heard_after, lets_in, piece_after, pieces_after}
 use Rattle.qc_state.specs.Types.{Types, Meaning}
@@ -51,12 +51,11 @@ module _ {P : Type 0} (opening : P → OpeningFunction) (rx : ℕ) where
 
   -- there are
   pub in_ring : (n : ℕ) (ring : Option (Keyed P)) (k : Keyed P) (spin phase : Bool) (dst : List ℕ) (low : PacketNumber) (head sealed : List ℕ) (o : Opening) → ring ≡ Some k → n ≡ expanded low (plus rx 1) →
-      o ≡ (if names_next (header.Short spin phase dst low) (Some k) n then Unreadable else judged (header.Short spin phase dst low) n head (opened_under_key opening (ring_key (Some k) phase n) n head sealed)) →
-      o ≡ opened_by opening None ring rx (header.Short spin phase dst low) head sealed
-  unfolding opened_by key_named
+      o ≡ opened_numbered opening None (Some k) rx n (header.Short spin phase dst low) head sealed → o ≡ opened_by opening None ring rx (header.Short spin phase dst low) head sealed
+  unfolding opened_by
   in_ring n ring k spin phase dst low head sealed o is_ring is_n is =
       is
-      ∙ ap (λ (x : ℕ). if names_next (header.Short spin phase dst low) (Some k) x then Unreadable else judged (header.Short spin phase dst low) x head (opened_under_key opening (ring_key (Some k) phase x) x head sealed)) is_n
+      ∙ ap (λ (x : ℕ). opened_numbered opening None (Some k) rx x (header.Short spin phase dst low) head sealed) is_n
       ∙ sym (ap (λ (x : Option (Keyed P)). opened_by opening None x rx (header.Short spin phase dst low) head sealed) is_ring)
 
 module _ {H P : Type 0} (mask : H → List ℕ → List ℕ) (opening : P → OpeningFunction) (key : H) (ring : Option (Keyed P)) (rx len pn_offset : ℕ) (spin : Bool) (dst bytes : List ℕ) where

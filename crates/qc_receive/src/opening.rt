@@ -4,8 +4,8 @@ ghost use Rattle.std.specs.Prelude.{◌≡◌, IsSome, IfOk};
 ghost use Rattle.std.specs.Option.{option_copied};
 ghost use Rattle.qc_receive.specs.Told.{opening_told};
 ghost use Rattle.qc_header.specs.HeaderSpelling.{header_number};
-ghost use Rattle.qc_packet.specs.OpenedPacket.{IsNumberOf};
-ghost use Rattle.qc_state.specs.Opening.{names_next, opened_form, source_of, spin_of, token_of, whole_number, opened_by, opened_under, opening_of};
+ghost use Rattle.qc_packet.specs.OpenedPacket.{IsNumberOf, which_in};
+ghost use Rattle.qc_state.specs.Opening.{opened_form, source_of, spin_of, token_of, whole_number, opened_by, opened_under, opening_of};
 ghost use Rattle.qc_state.specs.View.{ideal};
 
 use bytes::Bytes;
@@ -84,33 +84,31 @@ fn whole_number(header: &Header, rx: u64) -> u64
     }
 }
 
-/// Whether a packet with this number names the keys of the next epoch: its sender updated its keys (RFC 9001, section 6).
-fn names_next<P: PacketKey>(header: &Header, ring: Option<&KeyRing<P>>, number: u64) -> bool
-    ensures { result ≡ names_next header.now (option_copied ring.entry) number }
+/// Which keys of the ring a packet with this number names, if it is a 1-RTT packet.
+fn which_in<P: PacketKey>(header: &Header, ring: Option<&KeyRing<P>>, number: u64) -> Option<Which>
+    ensures { result ≡ which_in header.now (option_copied ring.entry) number }
 {
     match (header, ring) {
-        (Header::Short { key_phase, .. }, Some(ring)) => match ring.named(*key_phase, number) {
-            Which::Next => true,
-            Which::Current | Which::Previous => false,
-        },
-        _ => false,
+        (Header::Short { key_phase, .. }, Some(ring)) => Some(ring.named(*key_phase, number)),
+        _ => None,
     }
 }
 
-/// What becomes of a packet with this number by what opening it told. A key update is told of a packet that names the keys of the
-/// next epoch, which isn't taken so far. Want of memory is the only refusal.
+/// What becomes of a packet with this number, which names these keys of the ring, by what opening it told. Want of memory is the only
+/// refusal.
 fn judged(
     told: Result<Option<DecryptPacketResult>, OpenError>,
     number: u64,
+    which: Option<Which>,
     packet: Packet,
 ) -> Result<Opening, AllocError>
-    ensures { IfOk result (λ o. o ≡ opening_told told number packet) }
+    ensures { IfOk result (λ o. o ≡ opening_told told number which packet) }
 {
     let number = match told {
         Ok(Some(told)) => told.number,
         Ok(None) | Err(OpenError::Unopened) => return Ok(Opening::Unopened),
         Err(OpenError::Reserved) => return Ok(Opening::Reserved { number }),
-        Err(OpenError::KeyUpdate) => return Ok(Opening::Unreadable),
+        Err(OpenError::KeyUpdate) => return Ok(Opening::Untimely { number }),
     };
     let source = source_of(&packet.header);
     let token = token_of(&packet.header)?;
@@ -120,6 +118,7 @@ fn judged(
             source,
             token,
             spin,
+            which,
             number,
             payload,
         }),
@@ -139,9 +138,7 @@ fn open_packet<'a, P: PacketKey>(
     ensures { IfOk result (λ o. o ≡ opened_by P.opening (option_copied plain.entry) (option_copied ring.entry) rx packet.header packet.header_data packet.payload.items) }
 {
     let number = whole_number(&packet.header, rx);
-    if names_next(&packet.header, ring, number) {
-        return Ok(Opening::Unreadable);
-    }
+    let which = which_in(&packet.header, ring, number);
     let keys = OpenKeys {
         plain,
         early: None,
@@ -149,7 +146,7 @@ fn open_packet<'a, P: PacketKey>(
     };
     let mut packet = packet;
     let told = decrypt_packet_body(&mut packet, &keys, rx);
-    judged(told, number, packet)
+    judged(told, number, which, packet)
 }
 
 /// Takes the protection off a packet: its mask with this key, and then under the key that it names. Want of memory is the only

@@ -16,7 +16,7 @@ use bytes::{Bytes, BytesMut};
 use qc_admit::received;
 use qc_base::{ConnectionId, Instant, SpaceId};
 use qc_core::Core;
-use qc_core::stopping::key_limit_error;
+use qc_core::stopping::{key_limit_error, update_error};
 use qc_header::{PacketDecodeError, PartialDecode, ProtectedHeader};
 use qc_state::paths::same_address;
 use qc_state::{Coming, ConnectionError, DATAGRAM_SIZE, Dids, Means, Opening, Suite, Verdict};
@@ -119,15 +119,21 @@ fn opened<U: Suite>(
             core.do_tell_piece(did, space, Some(number), Verdict::BadBits)?;
             core.violated(did, coming.time)
         }
+        Opening::Untimely { number } => {
+            core.do_tell_piece(did, space, Some(number), Verdict::BadUpdate)?;
+            core.stopped(did, coming.time, update_error())
+        }
         Opening::Opened {
             source,
             token,
             spin,
+            which,
             number,
             payload,
         } => match space {
             None => core.do_tell_piece(did, None, None, Verdict::Ignored),
             Some(space) => {
+                core.unsealed(did, coming.time, which, number);
                 received(
                     core, alloc, did, coming, space, spin, source, token, number, payload,
                 )
@@ -301,9 +307,9 @@ fn has_first_ids<U: Suite>(core: &Core<U>, header: &ProtectedHeader) -> bool
 
 /// What came of taking the protection off a packet that may be a server's first one. None exactly where it may not: it
 /// has another form or other ids, it doesn't open, or its reserved bits aren't 0. Want of memory is the only refusal.
-#[tactic(auto, unfolding(qc_state::specs::Receiving::token_in_first))]
+#[tactic(auto, unfolding(qc_state::specs::Receiving::token_in_first), using(crate::proofs::FirstDatagrams::first_names_none))]
 fn first_opened<U: Suite>(core: &Core<U>, first: PartialDecode) -> Result<Option<First>, AllocError>
-    ensures some { IfOk result (λ r. IfSome r (λ x. (has_first_ids (ideal U.Random.stream core.now) first.header ≡ true) × (opening_of ⟦<U as Means>⟧.meaning (ideal U.Random.stream core.now) first ≡ Opening.Opened x.source x.token x.spin x.number x.payload))) }
+    ensures some { IfOk result (λ r. IfSome r (λ x. (has_first_ids (ideal U.Random.stream core.now) first.header ≡ true) × (opening_of ⟦<U as Means>⟧.meaning (ideal U.Random.stream core.now) first ≡ Opening.Opened x.source x.token x.spin None x.number x.payload))) }
     ensures none { IfOk result (λ r. IfNone r (token_in_first ⟦<U as Means>⟧.meaning (ideal U.Random.stream core.now) first ≡ None)) }
 {
     if !has_first_ids(core, first.header()) {
@@ -316,6 +322,7 @@ fn first_opened<U: Suite>(core: &Core<U>, first: PartialDecode) -> Result<Option
             spin,
             number,
             payload,
+            ..
         } => Ok(Some(First {
             source,
             token,
@@ -323,7 +330,10 @@ fn first_opened<U: Suite>(core: &Core<U>, first: PartialDecode) -> Result<Option
             number,
             payload,
         })),
-        Opening::Unreadable | Opening::Unopened | Opening::Reserved { .. } => Ok(None),
+        Opening::Unreadable
+        | Opening::Unopened
+        | Opening::Reserved { .. }
+        | Opening::Untimely { .. } => Ok(None),
     }
 }
 

@@ -4,11 +4,11 @@ ghost use Rattle.std.specs.Prelude.{◌≡◌, ◌≤◌, ◌/◌, ◌%◌, ◌=
 ghost use Rattle.std.specs.Option.{option_copied};
 ghost use Rattle.qc_base.specs.Mask.{first_byte};
 ghost use Rattle.qc_base.specs.declared.side.SpaceId.TheVariants.{«Data»};
-ghost use Rattle.qc_receive.specs.Short.{header_of, short_in, short_told};
+ghost use Rattle.qc_receive.specs.Short.{header_of, judged_short, short_in, short_told};
 ghost use Rattle.qc_header.specs.Unprotected.{short_packet};
-ghost use Rattle.qc_packet.specs.OpenedPacket.{opened_by as opened_under_key, remote_of, ring_key};
-ghost use Rattle.qc_state.specs.declared.opening.Opening.TheVariants.{Unreadable};
-ghost use Rattle.qc_state.specs.Opening.{judged, names_next, opened_by, opened_under, opening_of};
+ghost use Rattle.qc_packet.specs.OpenedPacket.{is_bad_update, opened_by as opened_under_key, remote_of};
+ghost use Rattle.qc_rings.specs.Keyed.{key_of};
+ghost use Rattle.qc_state.specs.Opening.{judged, opened_by, opened_numbered, opened_under, opening_of};
 ghost use Rattle.qc_state.specs.Receiving.{opening_after, piece_after};
 ghost use Rattle.qc_state.specs.View.{ideal, held};
 
@@ -17,6 +17,7 @@ use bytes::BytesMut;
 use qc_admit::received_in;
 use qc_base::{ConnectionId, HeaderMask, SpaceId};
 use qc_core::Core;
+use qc_core::stopping::update_error;
 use qc_crypto::{KeyPair, PacketKey};
 use qc_header::{ShortHeader, finish_short, leading_byte};
 use qc_packet::{KeyRing, Which};
@@ -29,12 +30,17 @@ const SHORT_HEADER_SIZE: usize = 25;
 /// What opening a packet told.
 #[derive(Clone, Copy)]
 pub(crate) enum Told {
-    /// A key that it needs is missing, it is too short, or it names the keys of an epoch to come, which aren't taken so far.
+    /// A key that it needs is missing, or it is too short.
     Unreadable,
     /// Its key didn't open it.
     Unopened,
     /// It opened, and its reserved bits aren't 0.
     Reserved {
+        /// Its whole number.
+        number: u64,
+    },
+    /// The next keys opened it, where its sender wasn't allowed to update its keys.
+    Untimely {
         /// Its whole number.
         number: u64,
     },
@@ -44,6 +50,8 @@ pub(crate) enum Told {
         number: u64,
         /// Its spin bit.
         spin: bool,
+        /// Which keys of the ring opened it.
+        which: Which,
     },
 }
 
@@ -65,55 +73,75 @@ fn head_of(bytes: &[u8], len: usize) -> [u8; SHORT_HEADER_SIZE]
     head
 }
 
-/// Opens a payload behind this header, whose bytes are `head`, in place, under the peer's key of a pair, if it is there.
+/// What is told of a packet with this header and number that these keys of the ring opened, by whether its sender made an update that it
+/// wasn't allowed to make.
+fn told_opened(header: &ShortHeader, number: u64, which: Which, bad: bool) -> Told
+    ensures { (dst payload : List ℕ) → short_told result payload ≡ judged_short header.now dst number which bad payload }
+{
+    if header.reserved_bits != 0 {
+        return Told::Reserved { number };
+    }
+    if bad {
+        return Told::Untimely { number };
+    }
+    Told::Opened {
+        number,
+        spin: header.spin,
+        which,
+    }
+}
+
+/// Whether these keys of the ring show an update that the peer wasn't allowed to make.
+fn is_bad<P: PacketKey>(ring: &KeyRing<P>, which: Which, rx: u64, number: u64) -> bool
+    ensures { result ≡ is_bad_update (Some which) (Some ring.now) rx number }
+{
+    match which {
+        Which::Next => number <= rx || ring.is_update_unanswered(),
+        Which::Current | Which::Previous => false,
+    }
+}
+
+/// Opens a payload behind this header, whose bytes are `head`, in place, under the peer's key of a pair, if it is there: these keys of the
+/// ring, which show an update that the peer wasn't allowed to make, or don't.
 #[tactic(auto, unfolding(qc_packet::specs::OpenedPacket::opened_by))]
 fn open_with<P: PacketKey>(
     keys: Option<&KeyPair<P>>,
     number: u64,
     header: &ShortHeader,
+    which: Which,
+    bad: bool,
     head: &[u8],
     payload: &mut BytesMut,
 ) -> Told
     requires { header.now.reserved_bits ≡ first_byte head.now / 8 % 4 }
-    ensures { (dst : List ℕ) → short_told result payload.new.items ≡ judged (header_of header.now dst) number head.now
+    ensures { (dst : List ℕ) → short_told result payload.new.items ≡ judged (header_of header.now dst) number head.now (Some which) bad
         (opened_under_key P.opening (remote_of (option_copied keys.entry)) number head.now payload.old.items) }
 {
     match keys {
         None => Told::Unopened,
         Some(keys) => match keys.remote.decrypt(number, head, payload) {
             Err(_) => Told::Unopened,
-            Ok(()) => {
-                if header.reserved_bits == 0 {
-                    Told::Opened {
-                        number,
-                        spin: header.spin,
-                    }
-                } else {
-                    Told::Reserved { number }
-                }
-            }
+            Ok(()) => told_opened(header, number, which, bad),
         },
     }
 }
 
 /// Opens a payload behind this header in place, under the key of a ring that the header and the number name.
+#[tactic(auto, unfolding(qc_packet::specs::OpenedPacket::key_named))]
 fn open_in_ring<P: PacketKey>(
     ring: &KeyRing<P>,
+    rx: u64,
     number: u64,
     header: &ShortHeader,
     head: &[u8],
     payload: &mut BytesMut,
 ) -> Told
     requires { header.now.reserved_bits ≡ first_byte head.now / 8 % 4 }
-    ensures { (dst : List ℕ)
-        → let named = header_of header.now dst in
-        short_told result payload.new.items ≡ (if names_next named (Some ring.now) number then Unreadable else judged named number head.now
-        (opened_under_key P.opening (ring_key (Some ring.now) header.now.key_phase number) number head.now payload.old.items)) }
+    ensures { (dst : List ℕ) → short_told result payload.new.items ≡ opened_numbered P.opening None (Some ring.now) rx number (header_of header.now dst) head.now payload.old.items }
 {
-    match ring.named(header.key_phase, number) {
-        Which::Next => Told::Unreadable,
-        which => open_with(ring.key(which), number, header, head, payload),
-    }
+    let which = ring.named(header.key_phase, number);
+    let bad = is_bad(ring, which, rx, number);
+    open_with(ring.key(which), number, header, which, bad, head, payload)
 }
 
 /// Opens the payload behind a header in place, under the key that it names.
@@ -132,7 +160,7 @@ fn open_behind<P: PacketKey>(
         None => Told::Unopened,
         Some(ring) => {
             let number = header.number.expand(rx.saturating_add(1));
-            open_in_ring(ring, number, header, head, payload)
+            open_in_ring(ring, rx, number, header, head, payload)
         }
     }
 }
@@ -193,7 +221,16 @@ fn told_short<U: Suite>(
             core.do_tell_piece(did, Some(SpaceId::Data), Some(number), Verdict::BadBits)?;
             core.violated(did, coming.time)
         }
-        Told::Opened { number, spin } => {
+        Told::Untimely { number } => {
+            core.do_tell_piece(did, Some(SpaceId::Data), Some(number), Verdict::BadUpdate)?;
+            core.stopped(did, coming.time, update_error())
+        }
+        Told::Opened {
+            number,
+            spin,
+            which,
+        } => {
+            core.unsealed(did, coming.time, Some(which), number);
             received_in(
                 core,
                 alloc,

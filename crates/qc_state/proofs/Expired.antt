@@ -8,12 +8,12 @@ use Rattle.qc_state.specs.declared.life.ConnectionError.TheVariants.{TimedOut}
 use Rattle.qc_state.specs.declared.life.State.TheVariants.{Drained}
 use Rattle.qc_cids.specs.Cids.{asks_anew}
 use Rattle.qc_state.specs.Life.{is_drained, is_open}
-use Rattle.qc_state.specs.Moves.{Move, Fire, Arm, Outlive, Pace, Raise, Release, Want, Give, MayMove, state_move, move_to, life_move, timers_move, armed_after, armed_with}
+use Rattle.qc_state.specs.Moves.{Move, Discard, Fire, Arm, Outlive, Pace, Raise, Release, Want, Give, MayMove, state_move, move_to, life_move, timers_move, armed_after, armed_with}
 use Rattle.qc_state.specs.Paths.{is_blocked}
 use Rattle.qc_state.specs.Recovering.{fired_by, loss_time}
 use Rattle.qc_state.specs.Stopping.{given_after, killed_after}
-use Rattle.qc_state.specs.Timeouts.{loss_expired, idle_expired, close_expired, pacing_expired, ids_expired, ack_expired, timeout_after, wanted_anew}
-use Rattle.qc_state.specs.Timers.{has_come, timers_outlived, timers_paced, timers_released, timers_stopped}
+use Rattle.qc_state.specs.Timeouts.{loss_expired, idle_expired, close_expired, keys_expired, pacing_expired, ids_expired, ack_expired, timeout_after, wanted_anew}
+use Rattle.qc_state.specs.Timers.{has_come, timers_discarded, timers_outlived, timers_paced, timers_released, timers_stopped}
 use Rattle.qc_state.specs.declared.timers.Timers.{Timers}
 use Rattle.qc_state.specs.Types.{Types, Meaning}
 use Rattle.qc_state.specs.View.{At}
@@ -23,6 +23,7 @@ use Rattle.qc_state.proofs.Telling.{low_rank, is_none_none}
 abbrev pub IsTimed : {t : Types} → Move t → Type 0
 IsTimed (Fire r) = Unit {0}
 IsTimed (Arm at) = Unit {0}
+IsTimed Discard = Unit {0}
 IsTimed Pace = Unit {0}
 IsTimed Release = Unit {0}
 IsTimed Outlive = Unit {0}
@@ -44,9 +45,9 @@ module _ {t : Types} where
   fired_life time r a true = refl
   fired_life time r a false = refl
 
-  -- what the last three timers do
+  -- what the last four timers do
   abbrev late : (time : ℕ) → At t → At t
-  late time a = ack_expired time (ids_expired time (pacing_expired time a))
+  late time a = ack_expired time (ids_expired time (pacing_expired time (keys_expired time a)))
 
 -- those beside the firing of the loss timer
 abbrev pub IsExpiry : {t : Types} → Move t → Type 0
@@ -93,6 +94,12 @@ module _ {t : Types} (m : Meaning t) (R : At t → At t → Type 0) (here : (a :
       subst (λ (x : Bool). R a (if x then move_to (Raise Drained) c else c)) (sym (killed_stops TimedOut time a (is_none (move_to (Raise Drained) a).state.life.reason))) (holds_killed TimedOut a h)
   ended_by time a false h = raised_by a (has_come a.state.timers.close time) h
 
+  -- keys of the epoch before are dropped
+  dropped_by : (a : At t) (b : Bool) → R a (if b then move_to Discard a else a)
+  unfolding MayMove
+  dropped_by a true = move Discard tt a tt
+  dropped_by a false = here a
+
   -- a datagram that was held back may go
   paced_by : (a : At t) (b : Bool) → R a (if b then move_to Pace a else a)
   unfolding MayMove
@@ -118,14 +125,16 @@ module _ {t : Types} (m : Meaning t) (R : At t → At t → Type 0) (here : (a :
       next a b _ (move Outlive tt a tt) (asked_by time (asks_anew a.state.lower.ids) b (is_open b.state.life.state))
   outlived_by time a false = here a
 
-  -- what the last three timers do
+  -- what the last four timers do
   late_by : (time : ℕ) (a : At t) → R a (late time a)
-  unfolding pacing_expired ids_expired ack_expired
+  unfolding keys_expired pacing_expired ids_expired ack_expired
   late_by time a =
-      let b : At t = pacing_expired time a in
+      let k : At t = keys_expired time a in
+      let b : At t = pacing_expired time k in
       let c : At t = ids_expired time b in
-      next a b _ (paced_by a (has_come a.state.timers.pacing time))
-      (next b c _ (outlived_by time b (has_come b.state.timers.push_new_cid time)) (released_by c (has_come c.state.timers.max_ack_delay time)))
+      next a k _ (dropped_by a (has_come a.state.timers.key_discard time))
+      (next k b _ (paced_by k (has_come k.state.timers.pacing time))
+      (next b c _ (outlived_by time b (has_come b.state.timers.push_new_cid time)) (released_by c (has_come c.state.timers.max_ack_delay time))))
 
   alive_by : (time : ℕ) (a : At t) (b : Bool) → is_drained a.state.life.state ≡ b → R a (if b then a else late time (close_expired time (idle_expired time (loss_expired m time a))))
   unfolding loss_expired idle_expired
@@ -184,7 +193,12 @@ module _ {t : Types} where
   wanted_left time count a true = refl
   wanted_left time count a false = refl
 
-  -- the pacer, ids that have grown old, and an ACK that is owed at last, leave the timers before them
+  -- keys that are dropped, the pacer, ids that have grown old, and an ACK that is owed at last, leave the timers before them
+  dropped_left : (f : Timers → Option ℕ) → ((v : Timers) → f (timers_discarded v) ≡ f v) → (a : At t) (b : Bool) → f (if b then move_to Discard a else a).state.timers ≡ f a.state.timers
+  unfolding move_to state_move timers_move
+  dropped_left f same a true = same a.state.timers
+  dropped_left f same a false = refl
+
   paced_left : (f : Timers → Option ℕ) → ((v : Timers) → f (timers_paced v) ≡ f v) → (a : At t) (b : Bool) → f (if b then move_to Pace a else a).state.timers ≡ f a.state.timers
   unfolding move_to state_move timers_move
   paced_left f same a true = same a.state.timers
@@ -200,27 +214,42 @@ module _ {t : Types} where
   released_left f same a true = same a.state.timers
   released_left f same a false = refl
 
-  -- the last two, and all three
+  -- the last two, the last three, and all four
   last_left : (f : Timers → Option ℕ) → ((v : Timers) → f (timers_outlived v) ≡ f v) → ((v : Timers) → f (timers_released v) ≡ f v) → (time : ℕ) (a : At t) → f (ack_expired time (ids_expired time a)).state.timers ≡ f a.state.timers
   unfolding ids_expired ack_expired
   last_left f outlived released time a =
       let b : At t = ids_expired time a in
       released_left f released b (has_come b.state.timers.max_ack_delay time) ∙ outlived_left f outlived time (asks_anew a.state.lower.ids) a (has_come a.state.timers.push_new_cid time)
 
-  late_left : (f : Timers → Option ℕ) → ((v : Timers) → f (timers_paced v) ≡ f v) → ((v : Timers) → f (timers_outlived v) ≡ f v) → ((v : Timers) → f (timers_released v) ≡ f v) → (time : ℕ) (a : At t) →
-      f (late time a).state.timers ≡ f a.state.timers
+  pacing_on : (f : Timers → Option ℕ) → ((v : Timers) → f (timers_paced v) ≡ f v) → ((v : Timers) → f (timers_outlived v) ≡ f v) → ((v : Timers) → f (timers_released v) ≡ f v) → (time : ℕ) (a : At t) →
+      f (ack_expired time (ids_expired time (pacing_expired time a))).state.timers ≡ f a.state.timers
   unfolding pacing_expired
-  late_left f paced outlived released time a = last_left f outlived released time (pacing_expired time a) ∙ paced_left f paced a (has_come a.state.timers.pacing time)
+  pacing_on f paced outlived released time a = last_left f outlived released time (pacing_expired time a) ∙ paced_left f paced a (has_come a.state.timers.pacing time)
+
+  late_left : (f : Timers → Option ℕ) → ((v : Timers) → f (timers_discarded v) ≡ f v) → ((v : Timers) → f (timers_paced v) ≡ f v) → ((v : Timers) → f (timers_outlived v) ≡ f v) → ((v : Timers) → f (timers_released v) ≡ f v) → (time : ℕ) (a : At t) →
+      f (late time a).state.timers ≡ f a.state.timers
+  unfolding keys_expired
+  late_left f dropped paced outlived released time a = pacing_on f paced outlived released time (keys_expired time a) ∙ dropped_left f dropped a (has_come a.state.timers.key_discard time)
 
   idle_left : (time : ℕ) (a : At t) → (late time a).state.timers.idle ≡ a.state.timers.idle
-  unfolding timers_paced timers_outlived timers_released
-  idle_left time a = late_left (λ (v : Timers). v.idle) (λ v. refl) (λ v. refl) (λ v. refl) time a
+  unfolding timers_discarded timers_paced timers_outlived timers_released
+  idle_left time a = late_left (λ (v : Timers). v.idle) (λ v. refl) (λ v. refl) (λ v. refl) (λ v. refl) time a
 
   close_left : (time : ℕ) (a : At t) → (late time a).state.timers.close ≡ a.state.timers.close
-  unfolding timers_paced timers_outlived timers_released
-  close_left time a = late_left (λ (v : Timers). v.close) (λ v. refl) (λ v. refl) (λ v. refl) time a
+  unfolding timers_discarded timers_paced timers_outlived timers_released
+  close_left time a = late_left (λ (v : Timers). v.close) (λ v. refl) (λ v. refl) (λ v. refl) (λ v. refl) time a
 
   -- their own ones are stopped
+  dropped_keys : (time : ℕ) (a : At t) (b : Bool) → has_come a.state.timers.key_discard time ≡ b → has_come (if b then move_to Discard a else a).state.timers.key_discard time ≡ false
+  unfolding move_to state_move timers_move timers_discarded
+  dropped_keys time a true h = refl
+  dropped_keys time a false h = h
+
+  keys_left : (time : ℕ) (a : At t) → has_come (late time a).state.timers.key_discard time ≡ false
+  unfolding keys_expired timers_paced timers_outlived timers_released
+  keys_left time a =
+      ap (λ (x : Option ℕ). has_come x time) (pacing_on (λ (v : Timers). v.key_discard) (λ v. refl) (λ v. refl) (λ v. refl) time (keys_expired time a)) ∙ dropped_keys time a (has_come a.state.timers.key_discard time) refl
+
   paced_pacing : (time : ℕ) (a : At t) (b : Bool) → has_come a.state.timers.pacing time ≡ b → has_come (if b then move_to Pace a else a).state.timers.pacing time ≡ false
   unfolding move_to state_move timers_move timers_paced
   paced_pacing time a true h = refl
@@ -229,7 +258,8 @@ module _ {t : Types} where
   pacing_left : (time : ℕ) (a : At t) → has_come (late time a).state.timers.pacing time ≡ false
   unfolding pacing_expired timers_outlived timers_released
   pacing_left time a =
-      ap (λ (x : Option ℕ). has_come x time) (last_left (λ (v : Timers). v.pacing) (λ v. refl) (λ v. refl) time (pacing_expired time a)) ∙ paced_pacing time a (has_come a.state.timers.pacing time) refl
+      let k : At t = keys_expired time a in
+      ap (λ (x : Option ℕ). has_come x time) (last_left (λ (v : Timers). v.pacing) (λ v. refl) (λ v. refl) time (pacing_expired time k)) ∙ paced_pacing time k (has_come k.state.timers.pacing time) refl
 
   outlived_cid : (time count : ℕ) (a : At t) (b : Bool) → has_come a.state.timers.push_new_cid time ≡ b → has_come (if b then wanted_anew time count (move_to Outlive a) else a).state.timers.push_new_cid time ≡ false
   unfolding move_to state_move timers_move timers_outlived
@@ -281,8 +311,12 @@ module _ {t : Types} where
 
   pub held_later : (m : Meaning t) (time : ℕ) (a : At t) → is_drained a.state.life.state ≡ false → has_come (timeout_after m time a).state.timers.max_ack_delay time ≡ false
   held_later m time a alive =
-      ap (λ (x : At t). has_come x.state.timers.max_ack_delay time) (timeout_is m time a alive) ∙ held_left time (ids_expired time (pacing_expired time (close_expired time (idle_expired time (loss_expired m time a)))))
+      ap (λ (x : At t). has_come x.state.timers.max_ack_delay time) (timeout_is m time a alive) ∙ held_left time (ids_expired time (pacing_expired time (keys_expired time (close_expired time (idle_expired time (loss_expired m time a))))))
 
   pub cids_later : (m : Meaning t) (time : ℕ) (a : At t) → is_drained a.state.life.state ≡ false → has_come (timeout_after m time a).state.timers.push_new_cid time ≡ false
   cids_later m time a alive =
-      ap (λ (x : At t). has_come x.state.timers.push_new_cid time) (timeout_is m time a alive) ∙ cids_left time (pacing_expired time (close_expired time (idle_expired time (loss_expired m time a))))
+      ap (λ (x : At t). has_come x.state.timers.push_new_cid time) (timeout_is m time a alive) ∙ cids_left time (pacing_expired time (keys_expired time (close_expired time (idle_expired time (loss_expired m time a)))))
+
+  pub keys_later : (m : Meaning t) (time : ℕ) (a : At t) → is_drained a.state.life.state ≡ false → has_come (timeout_after m time a).state.timers.key_discard time ≡ false
+  keys_later m time a alive =
+      ap (λ (x : At t). has_come x.state.timers.key_discard time) (timeout_is m time a alive) ∙ keys_left time (close_expired time (idle_expired time (loss_expired m time a)))

@@ -6,7 +6,9 @@ pub mod RoomTold
 pub mod IdSteps
 pub mod IdsSettled
 pub mod IdsTaken
+pub mod InitialOpened
 pub mod KeptFrames
+pub mod KeySteps
 pub mod AckLemmas
 pub mod Batches
 pub mod Controls
@@ -31,4 +33,5 @@ pub mod StreamsSettled
 pub mod StreamsTaken
 pub mod Taken
 pub mod Transmitted
+pub mod WhichOpened
 pub mod Ready

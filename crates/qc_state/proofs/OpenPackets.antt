@@ -1,6 +1,6 @@
 -- What holds of each move that a packet which opened makes, holds of the packet. Each move is said to be one of this packet, so
 -- that a law can learn which payload a frame that is given belongs to.
-use Rattle.std.proofs.Common.{◌≡◌, ℕ, ◌<◌, inl, inr, List, [], ◌∷◌, length, refl, ap, sym, subst, Bool, true, false, Option, Some, None, if◌then◌else◌, arith}
+use Rattle.std.proofs.Common.{◌≡◌, ℕ, ◌<◌, inl, inr, List, [], ◌∷◌, length, refl, ap, sym, ◌∙◌, subst, Bool, true, false, Option, Some, None, if◌then◌else◌, arith}
 use Rattle.std.specs.Prelude.{not, is_none, Result, Ok, Err, IfSome}
 use Rattle.std.specs.List.{list_any}
 use Rattle.qc_base.specs.declared.transport_error.TransportError.{TransportError}
@@ -15,6 +15,7 @@ use Rattle.qc_frame.specs.Payload.{Item, items_of}
 use Rattle.qc_frame.specs.declared.fault.InvalidFrame.{InvalidFrame}
 use Rattle.qc_frame.specs.declared.frames.FrameOf.TheVariants as frames
 use Rattle.qc_frame.specs.declared.frames.NewConnectionId.{NewConnectionId}
+use Rattle.qc_rings.specs.declared.which.Which.{Which}
 use Rattle.qc_state.specs.declared.coming.Coming.{Coming}
 use Rattle.qc_state.specs.declared.deeds.Did.{Did}
 use Rattle.qc_state.specs.declared.deeds.Did.TheVariants as did
@@ -29,7 +30,7 @@ use Rattle.qc_state.specs.declared.life.Life.{Life}
 use Rattle.qc_state.specs.Life.{rank_of, is_open, is_closed, is_over, life_drained, reason_given}
 use Rattle.qc_state.specs.Ids.{insert_stop, retire_stop, switches_for}
 use Rattle.qc_state.specs.Lower.{handed_stop, ready_bytes, session_read, stream_of}
-use Rattle.qc_state.specs.Moves.{Move, Arm, Forget, Enter, Accept, Fix, Give, Hand, Insert, Switch, Retire, Ack, Come, Read, Ready, Shut, Tell, PeerClosesToo, PeerCloses, Owe, move_to, state_move, numbers_move, keys_move, life_move, paths_move, timers_move, waiting_move, setup_move, lower_move, MayMove, accepts, enters, armed_after, armed_with}
+use Rattle.qc_state.specs.Moves.{Move, Arm, Unseal, Forget, Enter, Accept, Fix, Give, Hand, Insert, Switch, Retire, Ack, Come, Read, Ready, Shut, Tell, PeerClosesToo, PeerCloses, Owe, move_to, state_move, numbers_move, keys_move, life_move, paths_move, timers_move, waiting_move, setup_move, lower_move, MayMove, accepts, enters, armed_after, armed_with}
 use Rattle.qc_state.specs.Numbers.{is_new_in, next_number}
 use Rattle.qc_state.specs.Progress.{progress_after}
 use Rattle.qc_state.specs.Receiving.{reason_of, signs_of, stop_in, is_close_item, is_eliciting_item, left_after, rearmed_after, settled_after, acked_after, confirmed_after, applied_after, close_given, closed_in_data, end_after, crypto_stop, items_after, payload_after, fixes_peer, fixed_after, read_for_close, admitted_after, verdict_after, received_after, accepted_after, Behind, Goes, Closes, Ends, Course, Reads, Ended, close_after, ended_by, answered_after, bytes_given, kept_after, frame_after, course_with, handed_after, inserted_after, refused_after, retired_after, switched_after}
@@ -38,6 +39,7 @@ use Rattle.qc_state.specs.Recovering.{loss_time, settled_by}
 use Rattle.qc_state.specs.Sending.{drops_initial, initial_left}
 use Rattle.qc_state.specs.Stopping.{encoding_error_at, given_after, stopped_after}
 use Rattle.qc_state.specs.Types.{Types, Meaning}
+use Rattle.qc_state.specs.Updating.{fresh_by, session_by, unsealed_after}
 use Rattle.qc_state.specs.Verdicts.{first_row, verdict_of}
 use Rattle.qc_state.specs.View.{View, At}
 use Rattle.qc_state.proofs.Ends.{given_by, stopped_by}
@@ -143,9 +145,15 @@ module _ {t : Types} where
   unknown_peer Handshake s h = cc h
   unknown_peer Data s h = cc h
 
-  -- what a packet does that opened
+  -- what a packet does that opened: it makes its step of the ring, and then that of its verdict
   abbrev pub packet_received : Meaning t → OpenPacket → At t → At t
-  packet_received m o a = received_after m o.coming o.space o.spin o.source o.token o.number o.payload a
+  packet_received m o a = received_after m o.coming o.space o.spin o.source o.token o.number o.payload (unsealed_after m o.coming.time o.which o.number a)
+
+  -- its step of the ring leaves the life
+  pub unsealed_life : (m : Meaning t) (time n : ℕ) (which : Option Which) (a : At t) → (unsealed_after m time which n a).state.life ≡ a.state.life
+  unfolding move_to state_move life_move
+  unsealed_life m time n None a = refl
+  unsealed_life m time n (Some which) a = refl
 
   -- the session is given bytes: this is told, and it reads them
   abbrev pub given_read : Meaning t → OpenPacket → (first : ℕ) → (bytes : List ℕ) → At t → At t
@@ -482,19 +490,32 @@ module _ {t : Types} (m : Meaning t) (o : OpenPacket) (R : At t → At t → Typ
   verdict_by verdict.Ignored a judged new closed opened = here a
   verdict_by verdict.Failure a judged new closed opened = here a
   verdict_by verdict.BadBits a judged new closed opened = here a
+  verdict_by verdict.BadUpdate a judged new closed opened = here a
   verdict_by verdict.Seen a judged new closed opened = move (Tell (did.Piece (Some o.space) (Some o.number) verdict.Seen)) a (refl, refl, refl, sym judged) tt refl
   verdict_by verdict.ReadForClose a judged new closed opened = holds_closing a judged (new refl) (closed refl)
   verdict_by verdict.NumberOnly a judged new closed opened = move (Enter o.space o.number verdict.NumberOnly) a (refl, record { space = refl; same = refl; judged = judged }) tt (new refl, refl)
   verdict_by verdict.AckOnly a judged new closed opened = holds_accepted false verdict.AckOnly a judged (new refl) refl refl (opened refl)
   verdict_by verdict.Admitted a judged new closed opened = holds_admitted a judged (new refl) (opened refl)
 
-  pub packet_beside : (a : At t) → is_over a.state.life.state ≡ false → R a (packet_received m o a)
+  received_beside : (a : At t) → is_over a.state.life.state ≡ false → R a (received_after m o.coming o.space o.spin o.source o.token o.number o.payload a)
   unfolding received_after verdict_of
-  packet_beside a lively =
+  received_beside a lively =
       verdict_by (verdict_of a.state o.space o.source o.token o.number) a refl
       (λ h. new_by (is_new_in a.state.numbers o.space o.number) (is_closed a.state.life.state) _ _ (verdict_of a.state o.space o.source o.token o.number) refl h)
       (λ e. closed_by_row (is_new_in a.state.numbers o.space o.number) (is_closed a.state.life.state) _ _ e)
       (λ h. still_open a.state.life.state lively (open_by_row (is_new_in a.state.numbers o.space o.number) (is_closed a.state.life.state) _ _ (verdict_of a.state o.space o.source o.token o.number) refl h))
+
+  -- its step of the ring
+  unsealed_by : (which : Option Which) → o.which ≡ which → (a : At t) → is_over a.state.life.state ≡ false → R a (unsealed_after m o.coming.time which o.number a)
+  unfolding MayMove
+  unsealed_by None is a lively = here a
+  unsealed_by (Some which) is a lively =
+      move (Unseal o.coming.time o.number which (fresh_by m which a.state) (session_by m which a.state.lower.session)) a (record { same = refl; numbered = refl; named = is; given = refl; behind = refl }) tt lively
+
+  pub packet_beside : (a : At t) → is_over a.state.life.state ≡ false → R a (packet_received m o a)
+  packet_beside a lively =
+      let b : At t = unsealed_after m o.coming.time o.which o.number a in
+      next a b _ (unsealed_by o.which refl a lively) (received_beside b (ap (λ (l : Life). is_over l.state) (unsealed_life m o.coming.time o.number o.which a) ∙ lively))
 
 -- so does what holds of the two by which recovery is given an ACK, and of each other move that the packet makes
 module _ {t : Types} (m : Meaning t) (o : OpenPacket) (R : At t → At t → Type 0) (here : (a : At t) → R a a) (next : (a b c : At t) → R a b → R b c → R a c)

@@ -16,6 +16,8 @@ use Rattle.qc_frame.specs.declared.frames.FrameOf.TheVariants as frames
 use Rattle.qc_frame.specs.declared.frames.NewConnectionId.{NewConnectionId}
 use Rattle.qc_params.specs.declared.params.TransportParameters.{TransportParameters}
 use Rattle.qc_recovery.specs.Steps.{After}
+use Rattle.qc_rings.specs.declared.which.Which.{Which}
+use Rattle.qc_state.specs.declared.keys.Fresh.{Fresh}
 use Rattle.qc_state.specs.declared.coming.Coming.{Coming}
 use Rattle.qc_state.specs.declared.deeds.Did.{Did}
 use Rattle.qc_state.specs.declared.deeds.Did.TheVariants as did
@@ -30,7 +32,7 @@ use Rattle.qc_state.specs.Keys.{NewKeys}
 use Rattle.qc_state.specs.Life.{is_handshake}
 use Rattle.qc_state.specs.Ids.{insert_stop, retire_stop}
 use Rattle.qc_state.specs.Lower.{handed_stop, ready_bytes, stream_of}
-use Rattle.qc_state.specs.Moves.{Move, Give, Forget, Enter, Accept, Fix, Ack, Arm, Come, Read, Write, Ready, Token, Learn, Want, Confirm, Establish, Tell, Hand, Insert, Switch, Retire, PeerClosesToo, PeerCloses, Owe, Shut, accepts, state_move}
+use Rattle.qc_state.specs.Moves.{Move, Give, Unseal, Forget, Enter, Accept, Fix, Ack, Arm, Come, Read, Write, Ready, Token, Learn, Want, Confirm, Establish, Tell, Hand, Insert, Switch, Retire, PeerClosesToo, PeerCloses, Owe, Shut, accepts, state_move}
 use Rattle.qc_state.specs.Numbers.{next_number}
 use Rattle.qc_state.specs.Paths.{is_blocked}
 use Rattle.qc_state.specs.Progress.{ids_fit, is_end, keys_behind, session_behind}
@@ -39,15 +41,18 @@ use Rattle.qc_state.specs.Recovering.{loss_time, settled_by}
 use Rattle.qc_state.specs.Sending.{drops_initial}
 use Rattle.qc_state.specs.Stopping.{encoding_error_at, missing_parameters, parameter_error, violation_at}
 use Rattle.qc_state.specs.Types.{Types, Meaning}
+use Rattle.qc_state.specs.Updating.{fresh_by, session_by}
 use Rattle.qc_state.specs.Verdicts.{verdict_of}
 use Rattle.qc_state.specs.View.{View}
-use Rattle.qc_state.proofs.ReceivedMoves.{AreUnused, IsOfPiece, behind_unused, close_for}
+use Rattle.qc_state.proofs.ReceivedMoves.{AreUnused, FreshFits, IsOfPiece, behind_unused, close_for, fresh_fits}
 
--- a packet that opened: how its datagram came, its space, its spin bit, and its source id, token, number and payload
+-- a packet that opened: how its datagram came, its space, its spin bit, which keys of the ring opened it, if it is a 1-RTT packet, and its source
+-- id, token, number and payload
 pub record OpenPacket : Type 0 where
   pub coming : Coming
   pub space : SpaceId
   pub spin : Bool
+  pub which : Option Which
   pub source : List ℕ
   pub token : List ℕ
   pub number : ℕ
@@ -91,6 +96,15 @@ module _ {t : Types} where
   abbrev pub IsGivenOf : OpenPacket → Layer → List ℕ → View t → Type 0
   IsGivenOf o layer.Session body s = body ≡ ready_bytes (stream_of s.lower o.space)
   IsGivenOf o to body s = (f : FrameValue) × IsFrameOf o f × IsGivenTo to f × (body ≡ spelling f)
+
+  -- the step that the packet makes of the ring: with its number, by the keys that opened it; as it begins a new epoch, the session gives what that
+  -- takes with it
+  pub record IsUnsealedBy (m : Meaning t) (o : OpenPacket) (time number : ℕ) (which : Which) (fresh : Option (Fresh t.P)) (session : t.S) (s : View t) : Type 0 where
+    pub same : time ≡ o.coming.time
+    pub numbered : number ≡ o.number
+    pub named : o.which ≡ Some which
+    pub given : fresh ≡ fresh_by m which s
+    pub behind : session ≡ session_by m which s.lower.session
 
   -- what is told: a frame that is given to a layer, or that the packet was seen before
   abbrev pub IsToldOf : OpenPacket → Did → View t → Type 0
@@ -206,6 +220,7 @@ module _ {t : Types} where
 
   -- the moves that this packet makes, where it makes them
   abbrev pub IsInPacket : Meaning t → OpenPacket → Move t → View t → Type 0
+  IsInPacket m o (Unseal time n which fresh session) s = IsUnsealedBy m o time n which fresh session s
   IsInPacket m o (Forget id) s = IsForgotten m o id s
   IsInPacket m o (Arm at) s = IsTimer o.coming.time at s
   IsInPacket m o (Enter id n v) s = (accepts v ≡ false) × IsJudged o id n v s
@@ -229,6 +244,7 @@ module _ {t : Types} where
 
   -- what they are whatever the packet holds
   pub in_packet_piece : (m : Meaning t) (o : OpenPacket) (x : Move t) (s : View t) → IsInPacket m o x s → IsOfPiece x
+  in_packet_piece m o (Unseal time n which fresh session) s h = subst (λ (f : Option (Fresh t.P)). FreshFits which f) (sym h.given) (fresh_fits m which s)
   in_packet_piece m o (Forget id) s h = tt
   in_packet_piece m o (Enter id n v) s h = tt
   in_packet_piece m o (Accept time id n e g v) s h = h.2

@@ -6,21 +6,25 @@ use Rattle.qc_base.specs.declared.side.SpaceId.TheVariants.{Initial, Handshake, 
 use Rattle.qc_base.specs.declared.transport_error.TransportError.{TransportError}
 use Rattle.qc_crypto.specs.declared.keys.KeyPair.{KeyPair}
 use Rattle.qc_crypto.specs.declared.keys.Keys.{Keys}
+use Rattle.qc_rings.specs.declared.which.Which.{Which}
+use Rattle.qc_rings.specs.declared.which.Which.TheVariants.{Current, Next, Previous}
 use Rattle.qc_state.specs.declared.deeds.Did.{Did}
 use Rattle.qc_state.specs.declared.deeds.Did.TheVariants as did
 use Rattle.qc_state.specs.declared.deeds.Verdict.TheVariants as verdict
+use Rattle.qc_state.specs.declared.keys.Fresh.{Fresh}
 use Rattle.qc_state.specs.declared.life.Close.{Close}
 use Rattle.qc_state.specs.declared.life.Close.TheVariants as close
 use Rattle.qc_state.specs.declared.life.ConnectionError.{ConnectionError}
 use Rattle.qc_state.specs.declared.life.ConnectionError.TheVariants as lost
 use Rattle.qc_state.specs.declared.life.State.TheVariants.{Drained}
 use Rattle.qc_state.specs.Keys.{NewKeys, NoKeys, HandshakeKeys, DataKeys}
-use Rattle.qc_state.specs.Moves.{Move, Give, Forget, Enter, Expect, Fail, Accept, Fix, Hear, Ack, Arm, Come, Read, Write, Ready, Token, Learn, Want, Confirm, Establish, Tell, Hand, Insert, Switch, Retire, PeerClosesToo, PeerCloses, Owe, Shut, Raise, accepts}
+use Rattle.qc_state.specs.Moves.{Move, Give, Forget, Enter, Expect, Fail, Unseal, Accept, Fix, Hear, Ack, Arm, Come, Read, Write, Ready, Token, Learn, Want, Confirm, Establish, Tell, Hand, Insert, Switch, Retire, PeerClosesToo, PeerCloses, Owe, Shut, Raise, accepts}
 use Rattle.qc_state.specs.Paths.{is_blocked}
 use Rattle.qc_state.specs.Progress.{ring_with, keys_behind}
 use Rattle.qc_state.specs.Recovering.{loss_time}
-use Rattle.qc_state.specs.Stopping.{key_limit_error, violation_at}
+use Rattle.qc_state.specs.Stopping.{key_limit_error, update_error, violation_at}
 use Rattle.qc_state.specs.Types.{Types, Meaning}
+use Rattle.qc_state.specs.Updating.{fresh_by}
 use Rattle.qc_state.specs.View.{View}
 
 -- ---- of the move alone
@@ -42,6 +46,20 @@ behind_unused m Initial (Some k) session = refl
 behind_unused m Handshake (Some k) session = ring_unused m k (m.next_keys session)
 behind_unused m Data (Some k) session = tt
 
+-- what a ring takes with it into a new epoch is there for the next keys alone
+abbrev pub FreshFits : {P : Type 0} → Which → Option (Fresh P) → Type 0
+FreshFits Next fresh = Unit {0}
+FreshFits Current None = Unit {0}
+FreshFits Current (Some fresh) = ⊥
+FreshFits Previous None = Unit {0}
+FreshFits Previous (Some fresh) = ⊥
+
+-- so it is with what the session gives
+pub fresh_fits : {t : Types} (m : Meaning t) (which : Which) (s : View t) → FreshFits which (fresh_by m which s)
+fresh_fits m Next s = tt
+fresh_fits m Current s = tt
+fresh_fits m Previous s = tt
+
 -- the moves by which this end leaves a space, sets its loss timer, or closes, whatever came
 abbrev pub IsEnding : {t : Types} → Move t → Type 0
 IsEnding (Forget id) = Unit {0}
@@ -55,6 +73,7 @@ abbrev pub IsOfPiece : {t : Types} → Move t → Type 0
 IsOfPiece (Forget id) = Unit {0}
 IsOfPiece (Enter id n v) = Unit {0}
 IsOfPiece Fail = Unit {0}
+IsOfPiece (Unseal time n which fresh session) = FreshFits which fresh
 IsOfPiece (Accept time id n e g v) = accepts v ≡ true
 IsOfPiece (Fix cid) = Unit {0}
 IsOfPiece (Ack id n r) = Unit {0}
@@ -106,27 +125,34 @@ in_packet_received x h = piece_received x (ending_piece x h)
 
 -- ---- around the packets that opened
 
--- a deed that tells of a packet whose payload isn't read: it was ignored, its key didn't open it, or its reserved bits aren't 0
+-- a deed that tells of a packet whose payload isn't read: it was ignored, its key didn't open it, its reserved bits aren't 0, or it shows an
+-- update that its sender wasn't allowed to make
 abbrev pub IsUnread : Did → Type 0
 IsUnread (did.Piece space number verdict.Ignored) = Unit {0}
 IsUnread (did.Piece space number verdict.Failure) = Unit {0}
 IsUnread (did.Piece space number verdict.BadBits) = Unit {0}
+IsUnread (did.Piece space number verdict.BadUpdate) = Unit {0}
 IsUnread _ = ⊥
 
 -- the close by which this end closes for an error
 abbrev pub close_for : TransportError → Close
 close_for error = close.Connection (record { error_code = error.code; frame_type = error.frame; reason = [] })
 
--- the reasons for the end that a packet gives which doesn't open: its reserved bits aren't 0, or more packets didn't open than may
-abbrev pub IsUnopenedReason : ConnectionError → Type 0
-IsUnopenedReason why = (why ≡ lost.TransportError (violation_at None)) ⊎ (why ≡ lost.TransportError key_limit_error)
+-- the errors for which this end closes with a packet that doesn't open: its reserved bits aren't 0, or it shows an update that its sender wasn't
+-- allowed to make
+abbrev pub IsUnopenedError : TransportError → Type 0
+IsUnopenedError error = (error ≡ violation_at None) ⊎ (error ≡ update_error)
 
--- the moves that a packet makes which came at this time and doesn't open: this end closes where its reserved bits aren't 0
+-- the reasons for the end that such a packet gives: one of these errors, or more packets didn't open than may
+abbrev pub IsUnopenedReason : ConnectionError → Type 0
+IsUnopenedReason why = ((error : TransportError) × (why ≡ lost.TransportError error) × IsUnopenedError error) ⊎ (why ≡ lost.TransportError key_limit_error)
+
+-- the moves that a packet makes which came at this time and doesn't open: this end closes for such an error
 abbrev pub IsUnopened : {t : Types} → (time : ℕ) → Move t → Type 0
 IsUnopened time Fail = Unit {0}
 IsUnopened time (Raise to) = to ≡ Drained
 IsUnopened time (Tell d) = IsUnread d
-IsUnopened time (Shut at close) = (at ≡ time) × (close ≡ close_for (violation_at None))
+IsUnopened time (Shut at close) = (at ≡ time) × ((error : TransportError) × (close ≡ close_for error) × IsUnopenedError error)
 IsUnopened time (Give why) = IsUnopenedReason why
 IsUnopened time _ = ⊥
 

@@ -19,18 +19,18 @@ use Rattle.qc_cids.specs.Steps as ids
 use Rattle.qc_ids.specs.Expiries.{oldest_time}
 use Rattle.qc_ids.specs.LocalCids.{may_retire}
 use Rattle.qc_state.specs.Ids.{active_limit}
-use Rattle.qc_state.specs.Keys.{epoch_in}
+use Rattle.qc_state.specs.Keys.{epoch_in, ring_of, sets_floor}
 use Rattle.qc_state.specs.Forms.{is_early, number_space}
 use Rattle.qc_state.specs.Headline.{sealed_in, reasons_in, lives_in, entered_number, entered_in, EachNew, came_with, CloseFrom, RisesFrom, Kernel, kernel_of, kernel_after, IsBehind, IsRight, Tells}
 use Rattle.qc_state.specs.Life.{rank_of, is_open, is_closed, is_drained, reason_given, life_raised, life_closed, life_drained, life_established, data_ready, token_learned, token_told, identifiers_wanted, retirement_told, ready_reported, connected_reported, datagram_heard, heard_reported, all_heard_reported, lost_reported, notice_reported, notices_reported, drained_reported}
-use Rattle.qc_state.specs.Moves.{Probe, Move, ClosesOnly, Clock, Ask, Take, Seal, Forget, Enter, Expect, Fail, Accept, Fix, Hear, Ack, Fire, Arm, Pace, Release, Begin, Skip, Come, Read, Write, Ready, Token, Learn, Want, Confirm, Establish, Tell, Hand, Insert, Switch, Retire, Issue, Outlive, Call, Post, PeerClosesToo, PeerCloses, Owe, IsTold, enters, Shut, Raise, Give, Say, ReportReady, ReportConnected, ReportHeard, ReportAllHeard, ReportStream, ReportStreams, ReportLost, ReportNotice, ReportNotices, ReportDrained, state_move, move_to, deeds_move, MayMove, told, arrival_of, numbers_move, life_move, timers_move, Spend, Hold, Finish}
+use Rattle.qc_state.specs.Moves.{Probe, Move, ClosesOnly, Clock, Ask, Take, Seal, Forget, Enter, Expect, Fail, Accept, Fix, Hear, Ack, Fire, Arm, Pace, Release, Begin, Skip, Come, Read, Write, Ready, Token, Learn, Want, Confirm, Establish, Tell, Hand, Insert, Switch, Retire, Issue, Outlive, Call, Post, PeerClosesToo, PeerCloses, Owe, IsTold, enters, Shut, Raise, Give, Say, ReportReady, ReportConnected, ReportHeard, ReportAllHeard, ReportStream, ReportStreams, ReportLost, ReportNotice, ReportNotices, ReportDrained, state_move, move_to, deeds_move, MayMove, told, arrival_of, numbers_move, life_move, timers_move, Spend, Hold, Finish, Unseal, Discard}
 use Rattle.qc_state.specs.Numbers.{next_number, came_in, is_new_in, number_used, number_skipped, used_in, number_entered, number_accepted, number_acked}
 use Rattle.qc_state.specs.Numbers as numbers
 use Rattle.qc_state.specs.Recovering.{probe_timeout_now}
 use Rattle.qc_state.specs.Setup.{idle_limit_now}
 use Rattle.qc_state.specs.Spaces.{is_space, space_of, with_space}
 use Rattle.qc_state.specs.declared.numbers.SpaceNumbers.{SpaceNumbers}
-use Rattle.qc_state.specs.Timers.{timers_sealed, timers_acking, timers_accepted, timers_holding, timers_paced, timers_held, timers_released, timers_armed, timers_issued, timers_outlived, timers_stopped, timers_closing}
+use Rattle.qc_state.specs.Timers.{timers_sealed, timers_acking, timers_accepted, timers_holding, timers_paced, timers_held, timers_released, timers_armed, timers_issued, timers_outlived, timers_stopped, timers_closing, timers_keeping, timers_discarded}
 use Rattle.qc_state.specs.Waiting.{holds_back}
 use Rattle.qc_state.specs.Acks.{is_ack}
 use Rattle.qc_state.specs.Draws.{word}
@@ -40,6 +40,7 @@ use Rattle.qc_state.specs.Datagrams.{tells_datagram}
 use Rattle.qc_state.specs.Streams.{is_given_to_streams}
 use Rattle.qc_state.specs.Types.{Types}
 use Rattle.qc_state.specs.View.{View, At}
+use Rattle.qc_state.proofs.KeySteps.{keeping_same}
 
 -- deeds told one after another are appended
 pub told_appends : (ds es : List Did) → told ds es ≡ ds ++ es
@@ -324,12 +325,14 @@ module _ {t : Types} where
   move_tells id (Enter space n v) s h = enter_tells id space s n v (λ w. numbers.entered_in n w) h.0 h.1 (λ w. refl) (λ w. refl)
   move_tells id (Expect token) s h = behind_here _
   move_tells id Fail s h = behind_here _
+  move_tells id (Unseal time n which fresh session) s h = behind_here _
   move_tells id (Accept time space n e g v) s h = enter_tells id space s n v (λ w. numbers.accepted_in n w) h.0 h.1 (λ w. refl) (λ w. refl)
   move_tells id (Fix cid) s h = behind_here _
   move_tells id (Hear bytes) s h = behind_here _
   move_tells id (Ack space n r) s h = next_same id space s (λ w. numbers.acked_in n w) refl refl
   move_tells id (Fire r) s h = behind_here _
   move_tells id (Arm at) s h = behind_here _
+  move_tells id Discard s h = behind_here _
   move_tells id Pace s h = behind_here _
   move_tells id Release s h = behind_here _
   move_tells id (Begin space opens) s h = behind_here _
@@ -377,7 +380,7 @@ module _ {t : Types} where
 
   -- no move but the first of a call sets the clock
   pub clock_kept : (x : Move t) (s : View t) → MayMove x s → (state_move x s).timers.greatest ≡ s.timers.greatest
-  unfolding MayMove state_move timers_move timers_accepted timers_armed timers_stopped timers_closing timers_paced timers_held timers_released timers_outlived
+  unfolding MayMove state_move timers_move timers_keeping timers_discarded timers_accepted timers_armed timers_stopped timers_closing timers_paced timers_held timers_released timers_outlived
   clock_kept (Clock time) s h = absurd h
   clock_kept (Ask space) s h = refl
   clock_kept (Take space fs) s h = refl
@@ -385,6 +388,7 @@ module _ {t : Types} where
   clock_kept (Enter space n v) s h = refl
   clock_kept (Expect token) s h = refl
   clock_kept Fail s h = refl
+  clock_kept (Unseal time n which fresh session) s h = keeping_same (λ (v : Timers). v.greatest) (sets_floor which fresh (ring_of s.keys)) s.timers (probe_timeout_now s «Data») time (λ v probe at. refl)
   clock_kept (Accept time space n e g v) s h =
       holding_clock (timers_accepted s.timers (idle_limit_now s.setup) (probe_timeout_now s space) time) (holds_back s.waiting space (arrived n (came_in s.numbers space)) (arrival_of time n e g)) time
   clock_kept (Fix cid) s h = refl
@@ -392,6 +396,7 @@ module _ {t : Types} where
   clock_kept (Ack space n r) s h = refl
   clock_kept (Fire r) s h = refl
   clock_kept (Arm at) s h = refl
+  clock_kept Discard s h = refl
   clock_kept Pace s h = refl
   clock_kept Release s h = refl
   clock_kept (Begin space opens) s h = refl

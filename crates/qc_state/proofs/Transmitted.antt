@@ -45,6 +45,7 @@ use Rattle.qc_state.proofs.Probing.{due_established, due_keyed, due_validated, e
 use Rattle.qc_state.proofs.Begun.{begun_keys, begun_life, begun_same, holds_begun}
 use Rattle.qc_state.proofs.Telling.{is_none_none, low_rank, open_rank}
 use Rattle.qc_state.specs.declared.transmit.Batch.{Batch}
+use Rattle.qc_state.specs.Spaces.{is_space}
 
 -- what this end sends as its close is a close
 application_closes : (id : SpaceId) (code : ℕ) (kept : List ℕ) → is_close (application_close id code kept) ≡ true
@@ -87,7 +88,7 @@ IsPacketMove _ = ⊥
 -- the moves that a transmit makes, beside those that take and seal
 abbrev pub IsSending : {t : Types} → Move t → Type 0
 IsSending (Ask id) = Unit {0}
-IsSending (Forget id) = Unit {0}
+IsSending (Forget id) = id ≡ Initial
 IsSending (Shut time close) = Unit {0}
 IsSending (Raise to) = to ≡ state.Drained
 IsSending (Give why) = Unit {0}
@@ -301,7 +302,7 @@ module _ {t : Types} (R : At t → At t → Type 0) (here : (a : At t) → R a a
   -- the Initial space is left, or not
   left_by : (time : ℕ) (a : At t) (b : Bool) → R a (if b then armed_with false time (move_to (Forget Initial) a) else a)
   unfolding armed_with MayMove
-  left_by time a true = let b : At t = move_to (Forget Initial) a in next a b _ (move (Forget Initial) tt a tt) (move (Arm (loss_time b.state false time)) tt b (record { blocked = false; time = time; set = refl }))
+  left_by time a true = let b : At t = move_to (Forget Initial) a in next a b _ (move (Forget Initial) refl a tt) (move (Arm (loss_time b.state false time)) tt b (record { blocked = false; time = time; set = refl }))
   left_by time a false = here a
 
   left : (time : ℕ) (shook : Bool) (a : At t) → R a (handshake_left time shook a)

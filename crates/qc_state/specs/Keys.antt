@@ -1,15 +1,19 @@
--- The keys of a connection (RFC 9001, sections 4 and 6.6).
-use Rattle.std.specs.Prelude.{ℕ, ◌+◌, nat_le, nat_lt, Bool, false, Option, Some, None, is_some}
+-- The keys of a connection (RFC 9001, sections 4, 6 and 6.6).
+use Rattle.std.specs.Prelude.{ℕ, ◌+◌, nat_le, nat_lt, Bool, false, Option, Some, None, is_some, if◌then◌else◌}
 use Rattle.std.specs.Option.{option_map}
 use Rattle.qc_base.specs.declared.side.SpaceId.{SpaceId}
 use Rattle.qc_base.specs.declared.side.SpaceId.TheVariants.{Initial, Handshake, «Data»}
 use Rattle.qc_crypto.specs.declared.keys.KeyPair.{KeyPair}
 use Rattle.qc_crypto.specs.declared.keys.Keys.{Keys}
 use Rattle.qc_base.specs.Time.{plus}
-use Rattle.qc_rings.specs.Keyed.{Keyed, first_keyed, keyed_sealed}
+use Rattle.qc_packet.specs.OpenedPacket.{is_floor_missing}
+use Rattle.qc_rings.specs.Keyed.{Keyed, first_keyed, keyed_acked, keyed_discarded, keyed_opened, keyed_sealed}
 use Rattle.qc_rings.specs.Ring.{phase_of}
+use Rattle.qc_rings.specs.declared.which.Which.{Which}
+use Rattle.qc_rings.specs.declared.which.Which.TheVariants.{Current, Next, Previous}
 use Rattle.qc_state.specs.declared.form.Form.{Form}
 use Rattle.qc_state.specs.declared.form.Form.TheVariants as form
+use Rattle.qc_state.specs.declared.keys.Fresh.{Fresh}
 use Rattle.qc_state.specs.declared.keys.KeyGroup.{KeyGroup}
 use Rattle.qc_state.specs.declared.keys.KeyUse.{KeyUse}
 use Rattle.qc_state.specs.declared.keys.OneRttKeys.{OneRttKeys}
@@ -31,6 +35,24 @@ pub data NewKeys (H P : Type 0) : Type 0 where
   NoKeys : NewKeys H P
   HandshakeKeys : (keys : SpaceKeys H P) → NewKeys H P
   DataKeys : (keys : OneRttKeys H P) → NewKeys H P
+
+module _ {P : Type 0} where
+  -- what a ring takes with it into a new epoch: these keys of the epoch behind that, and the limits of the key that seals in the new one (RFC
+  -- 9001, sections 6.1 and 6.6)
+  abbrev pub fresh_with : (seals failures : P → ℕ) → Keyed P → KeyPair P → Fresh P
+  fresh_with seals failures ring keys = record { keys = keys; confidentiality_limit = seals ring.next.local; integrity_limit = failures ring.next.local }
+
+  -- the keys that are taken along
+  abbrev pub fresh_keys : Option (Fresh P) → Option (KeyPair P)
+  fresh_keys None = None
+  fresh_keys (Some fresh) = Some fresh.keys
+
+  -- whether a packet that these keys of the ring open sets a floor: of the next keys, as it begins a new epoch; of the current ones, where previous ones
+  -- have none (RFC 9001, section 6.5)
+  abbrev pub sets_floor : Which → Option (Fresh P) → Option (Keyed P) → Bool
+  sets_floor Next fresh ring = is_some fresh
+  sets_floor Current fresh ring = is_floor_missing ring
+  sets_floor Previous fresh ring = false
 
 module _ {H P : Type 0} where
   -- a connection that was just made has the keys of its Initial space
@@ -137,8 +159,7 @@ module _ {H P : Type 0} where
   abbrev pub new_keys : (seals failures : P → ℕ) → Keys H P → SpaceKeys H P
   new_keys seals failures keys = record { keys = keys; sealed = 0; confidentiality_limit = seals keys.packet.local; integrity_limit = failures keys.packet.local }
 
-  -- 1-RTT keys with this ring, with the limits of the key that seals in its epoch: so they are made, and so they will be made anew with
-  -- each key update
+  -- 1-RTT keys with this ring, with the limits of the key that seals in its epoch
   abbrev pub epoch_keys : (seals failures : P → ℕ) → (header : KeyPair H) → (ring : Keyed P) → OneRttKeys H P
   epoch_keys seals failures header ring = record {
     header = header;
@@ -150,6 +171,43 @@ module _ {H P : Type 0} where
   -- 1-RTT keys of the first epoch with those of the next, under which nothing was sealed yet, with the limits of the sealing key
   abbrev pub new_ring : (seals failures : P → ℕ) → Keys H P → (next : KeyPair P) → OneRttKeys H P
   new_ring seals failures keys next = epoch_keys seals failures keys.header (first_keyed keys.packet next)
+
+  -- what 1-RTT keys take along, where there are any, and keys of the epoch behind the next one
+  abbrev pub fresh_for : (seals failures : P → ℕ) → Option (OneRttKeys H P) → Option (KeyPair P) → Option (Fresh P)
+  fresh_for seals failures (Some k) (Some keys) = Some (fresh_with seals failures k.ring keys)
+  fresh_for seals failures _ _ = None
+
+  -- 1-RTT keys whose ring is this one from now on: in a new epoch they have the limits of that epoch's key
+  abbrev pub with_ring : OneRttKeys H P → Option (Fresh P) → Keyed P → OneRttKeys H P
+  with_ring k None ring = record k { ring = ring }
+  with_ring k (Some fresh) ring = record { header = k.header; ring = ring; confidentiality_limit = fresh.confidentiality_limit; integrity_limit = fresh.integrity_limit }
+
+  -- A packet of this number was opened by these keys of the ring, where there is one: the next ones begin a new epoch, and the current ones set
+  -- the floor of previous ones that have none (RFC 9001, sections 6.2 and 6.5). The header keys stay (section 6).
+  unfoldable pub ring_opened : Which → ℕ → Option (Fresh P) → Option (OneRttKeys H P) → Option (OneRttKeys H P)
+  ring_opened which n fresh None = None
+  ring_opened which n fresh (Some k) = Some (with_ring k fresh (keyed_opened k.ring which n (fresh_keys fresh)))
+
+  unfoldable pub key_opened : KeyGroup H P → Which → ℕ → Option (Fresh P) → KeyGroup H P
+  key_opened v which n fresh = record v { «data» = ring_opened which n fresh v.«data» }
+
+  -- a packet of this space was acknowledged: a 1-RTT one, where its number is of this epoch, allows an update of the keys (RFC 9001, section 6.1)
+  unfoldable pub ring_acked : ℕ → Option (OneRttKeys H P) → Option (OneRttKeys H P)
+  ring_acked n None = None
+  ring_acked n (Some k) = Some (record k { ring = keyed_acked k.ring n })
+
+  unfoldable pub key_acked : KeyGroup H P → SpaceId → ℕ → KeyGroup H P
+  key_acked v Initial n = v
+  key_acked v Handshake n = v
+  key_acked v «Data» n = record v { «data» = ring_acked n v.«data» }
+
+  -- the keys of the epoch before are dropped, where they have a floor (RFC 9001, section 6.5)
+  unfoldable pub ring_discarded : Option (OneRttKeys H P) → Option (OneRttKeys H P)
+  ring_discarded None = None
+  ring_discarded (Some k) = Some (record k { ring = keyed_discarded k.ring })
+
+  unfoldable pub key_discarded : KeyGroup H P → KeyGroup H P
+  key_discarded v = record v { «data» = ring_discarded v.«data» }
 
   -- how many packets a sealing key has sealed, and how many it may (RFC 9001, section 6.6)
   abbrev pub plain_usage : SpaceKeys H P → KeyUse

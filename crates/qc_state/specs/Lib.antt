@@ -32,6 +32,7 @@ pub mod Taking
 pub mod Timeouts
 pub mod Timers
 pub mod Types
+pub mod Updating
 pub mod Verdicts
 pub mod View
 pub mod Waiting

@@ -50,6 +50,10 @@ module _ {S : Type 0} where
   unfoldable pub session_wrote : Lower S → S → Lower S
   session_wrote l session = record l { session = session }
 
+  -- it was asked for keys of a further epoch, or wasn't, and is this one afterwards (RFC 9001, section 6.1)
+  abbrev pub session_asked : Lower S → S → Lower S
+  session_asked l session = record l { session = session }
+
   -- a packet of the space is in flight from now on
   unfoldable pub packet_flown : Lower S → SpaceId → (number : ℕ) → SentPacket → Lower S
   packet_flown l id number packet = record l { recovery = sent_after id number packet l.recovery }

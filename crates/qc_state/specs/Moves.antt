@@ -12,6 +12,8 @@ use Rattle.qc_frame.specs.FrameSpelling.{elicits, spelling}
 use Rattle.qc_frame.specs.declared.frames.FrameOf.TheVariants as frames
 use Rattle.qc_state.specs.declared.form.Form.{Form}
 use Rattle.qc_state.specs.declared.numbers.Numbers.{Numbers}
+use Rattle.qc_rings.specs.declared.which.Which.{Which}
+use Rattle.qc_state.specs.declared.keys.Fresh.{Fresh}
 use Rattle.qc_state.specs.declared.keys.KeyGroup.{KeyGroup}
 use Rattle.qc_state.specs.declared.life.Close.{Close}
 use Rattle.qc_state.specs.declared.life.Life.{Life}
@@ -46,13 +48,13 @@ use Rattle.qc_recovery.specs.Steps.{After, FiredAfter, path_dropped}
 use Rattle.qc_recovery.specs.declared.path.PathData.{PathData}
 use Rattle.qc_state.specs.Acks.{is_ack}
 use Rattle.qc_state.specs.Draws.{word}
-use Rattle.qc_state.specs.Life.{rank_of, is_open, is_closed, is_drained, reason_given, life_raised, life_closed, life_drained, life_established, data_ready, token_learned, identifiers_wanted, retirement_told, token_told, ready_reported, connected_reported, datagram_heard, more_heard, heard_reported, all_heard_reported, lost_reported, notice_reported, notices_reported, drained_reported}
+use Rattle.qc_state.specs.Life.{rank_of, is_open, is_over, is_closed, is_drained, reason_given, life_raised, life_closed, life_drained, life_established, data_ready, token_learned, identifiers_wanted, retirement_told, token_told, ready_reported, connected_reported, datagram_heard, more_heard, heard_reported, all_heard_reported, lost_reported, notice_reported, notices_reported, drained_reported}
 use Rattle.qc_state.specs.Numbers.{next_number, received_number, number_used, number_skipped, is_skipped, is_new_in, came_in, number_entered, number_accepted, number_acked}
 use Rattle.qc_state.specs.Forms.{is_early, number_space}
-use Rattle.qc_state.specs.Keys.{NewKeys, NoKeys, HandshakeKeys, DataKeys, epoch_in, has_keys_for, key_used, failure_counted, keys_given, keys_dropped}
+use Rattle.qc_state.specs.Keys.{NewKeys, NoKeys, HandshakeKeys, DataKeys, epoch_in, has_keys_for, key_acked, key_discarded, key_opened, key_used, failure_counted, keys_given, keys_dropped, ring_of, sets_floor}
 use Rattle.qc_state.specs.Flight.{flown_packet}
 use Rattle.qc_state.specs.Ids.{active_limit, fired_ids, lost_ids}
-use Rattle.qc_state.specs.Lower.{bytes_came, frames_sealed, ids_stepped, session_read, session_wrote, flight_dropped, packet_flown, packets_settled, timer_fired, streams_stepped, datagrams_stepped, frame_handed, limits_learned, streams_closed, event_told, events_told}
+use Rattle.qc_state.specs.Lower.{bytes_came, frames_sealed, ids_stepped, session_asked, session_read, session_wrote, flight_dropped, packet_flown, packets_settled, timer_fired, streams_stepped, datagrams_stepped, frame_handed, limits_learned, streams_closed, event_told, events_told}
 use Rattle.qc_state.specs.Offers.{packet_begun}
 use Rattle.qc_state.specs.Paths.{is_blocked, path_capped, path_probed, path_quiet, path_sent, path_received, path_accepted, path_kept, path_named, path_spun, peer_fixed}
 use Rattle.qc_state.specs.Recovering.{loss_time, probe_timeout_now}
@@ -64,7 +66,7 @@ use Rattle.qc_streams.specs.Steps.{AllMay, MayStep}
 use Rattle.qc_streams.specs.Waits as streams
 use Rattle.qc_datagrams.specs.Steps as datagrams
 use Rattle.qc_state.specs.Datagrams.{sealed_datagrams, shrunk_by, tells_datagram, told_by_all}
-use Rattle.qc_state.specs.Timers.{timers_sealed, timers_acking, timers_stopped, timers_closing, timers_accepted, timers_holding, timers_paced, timers_held, timers_released, timers_issued, timers_outlived, timers_armed, clock_set}
+use Rattle.qc_state.specs.Timers.{timers_sealed, timers_acking, timers_discarded, timers_keeping, timers_stopped, timers_closing, timers_accepted, timers_holding, timers_paced, timers_held, timers_released, timers_issued, timers_outlived, timers_armed, clock_set}
 use Rattle.qc_state.specs.Types.{Types}
 use Rattle.qc_state.specs.View.{View, At, at}
 use Rattle.qc_state.specs.Waiting.{ping_asked, done_asked, waiting_without, close_begun, packet_told, packet_came, packets_acked, packets_lost, fired_in, crypto_written, space_left, holds_back, ack_released, bundle_next}
@@ -93,6 +95,7 @@ abbrev pub enters : Verdict → Bool
 enters verdict.Ignored = false
 enters verdict.Failure = false
 enters verdict.BadBits = false
+enters verdict.BadUpdate = false
 enters verdict.Seen = false
 enters verdict.ReadForClose = true
 enters verdict.NumberOnly = true
@@ -162,6 +165,8 @@ pub data Move (t : Types) : Type 0 where
   Expect : (token : List ℕ) → Move t  -- a server's first packet came
   Enter : (id : SpaceId) → (number : ℕ) → (verdict : Verdict) → Move t  -- a packet came whose number counts, and whose frames don't
   Fail : Move t  -- a packet didn't open
+  Unseal : (time number : ℕ) → (which : Which) → (fresh : Option (Fresh t.P)) → (session : t.S) → Move t  -- a 1-RTT packet of this number was opened by these keys of the ring; as the next ones begin a new epoch, the session gave what that takes with it
+  Discard : Move t  -- the 1-RTT keys of the epoch before were kept for as long as they are to be
   Accept : (time : ℕ) → (id : SpaceId) → (number : ℕ) → (eliciting : Bool) → (signs : Signs) → (verdict : Verdict) → Move t  -- a packet was accepted
   Fix : (cid : List ℕ) → Move t  -- the peer has chosen its id
   Hear : (bytes : ℕ) → Move t  -- so many bytes came from the path's address
@@ -225,6 +230,9 @@ module _ {t : Types} where
   keys_move (Seal time form n size fs) s = key_used s.keys form n
   keys_move (Forget id) s = keys_dropped s.keys id
   keys_move Fail s = failure_counted s.keys
+  keys_move (Unseal time n which fresh session) s = key_opened s.keys which n fresh
+  keys_move (Ack id n r) s = key_acked s.keys id n
+  keys_move Discard s = key_discarded s.keys
   keys_move (Write bytes keys session) s = keys_given s.keys keys
   keys_move _ s = s.keys
 
@@ -277,6 +285,8 @@ module _ {t : Types} where
   timers_move (Accept time id n e g v) s =
       timers_holding (timers_accepted s.timers (idle_limit_now s.setup) (probe_timeout_now s id) time)
       (holds_back s.waiting id (arrived n (came_in s.numbers id)) (arrival_of time n e g)) time
+  timers_move (Unseal time n which fresh session) s = if sets_floor which fresh (ring_of s.keys) then timers_keeping s.timers (probe_timeout_now s «Data») time else s.timers
+  timers_move Discard s = timers_discarded s.timers
   timers_move Pace s = timers_paced s.timers
   timers_move (Hold until) s = timers_held s.timers until
   timers_move Release s = timers_released s.timers
@@ -334,6 +344,7 @@ module _ {t : Types} where
   lower_move (Come id offset bytes) s = bytes_came s.lower id offset bytes
   lower_move (Read id count session) s = session_read s.lower id count session
   lower_move (Write bytes keys session) s = session_wrote s.lower session
+  lower_move (Unseal time n which fresh session) s = session_asked s.lower session
   lower_move (Learn parameters) s = limits_learned parameters s.lower
   lower_move (Hand frame) s = frame_handed frame s.lower
   lower_move (Call x) s = streams_stepped (x ∷ []) s.lower
@@ -392,6 +403,7 @@ module _ {t : Types} where
   MayMove (Fix cid) s = s.paths.peer_cid ≡ None
   MayMove (Arm due) s = IsArmed due s
   MayMove (Write bytes keys session) s = AreNext keys s.keys.highest
+  MayMove (Unseal time n which fresh session) s = is_over s.life.state ≡ false
   MayMove Establish s = rank_of s.life.state < 1
   MayMove (Tell d) s = IsTold d
   MayMove (Post x) s = is_post x ≡ true

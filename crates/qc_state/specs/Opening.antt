@@ -1,5 +1,6 @@
--- Taking the protection off a packet that came (RFC 9001, sections 5.3 and 5.4). Initial, Handshake and 1-RTT packets are
--- opened, those of the other forms are not taken so far, and neither are 1-RTT packets of an epoch to come.
+-- Taking the protection off a packet that came (RFC 9001, sections 5.3, 5.4 and 5.5). Initial, Handshake and 1-RTT packets are
+-- opened, those of the other forms are not taken so far. A 1-RTT packet names its keys by its key phase and number: those of this end's epoch,
+-- those of the one before while they are kept, or those of the next one (sections 6.3 and 6.5).
 use Rattle.std.specs.Prelude.{ℕ, ◌+◌, ◌==◌, Bool, false, nat_lt, if◌then◌else◌, List, [], length, take, drop, Option, None, Some}
 use Rattle.qc_base.specs.Mask.{first_byte}
 use Rattle.qc_base.specs.Time.{plus}
@@ -12,13 +13,14 @@ use Rattle.qc_header.specs.declared.protected.ProtectedHeader.TheVariants.{Initi
 use Rattle.qc_header.specs.HeaderSpelling.{header_number}
 use Rattle.qc_header.specs.Piece.{Piece}
 use Rattle.qc_header.specs.Unprotected.{unprotected, header_end, header_from}
-use Rattle.qc_packet.specs.OpenedPacket.{are_next, key_named, opened_by as opened_under_key, reserved_bits, which_in}
+use Rattle.qc_packet.specs.OpenedPacket.{is_bad_update, key_named, opened_by as opened_under_key, reserved_bits, which_in}
 use Rattle.qc_crypto.specs.Mates.{Opening as OpeningFunction}
 use Rattle.qc_rings.specs.Keyed.{Keyed}
+use Rattle.qc_rings.specs.declared.which.Which.{Which}
 use Rattle.qc_state.specs.declared.form.Form.{Form}
 use Rattle.qc_state.specs.declared.form.Form.TheVariants as form
 use Rattle.qc_state.specs.declared.opening.Opening.{Opening}
-use Rattle.qc_state.specs.declared.opening.Opening.TheVariants.{Unreadable, Unopened, Reserved, Opened}
+use Rattle.qc_state.specs.declared.opening.Opening.TheVariants.{Unreadable, Unopened, Reserved, Untimely, Opened}
 use Rattle.qc_state.specs.Expansion.{expanded}
 use Rattle.qc_state.specs.Forms.{number_space}
 use Rattle.qc_state.specs.Keys.{opening_key, ring_of, unmasking_key}
@@ -65,24 +67,27 @@ abbrev pub whole_number : Option PacketNumber → ℕ → ℕ
 whole_number None rx = 0
 whole_number (Some number) rx = expanded number (plus rx 1)
 
--- what its key made of the payload, where the key opens it
-abbrev pub judged : Header → ℕ → List ℕ → Option (List ℕ) → Opening
-judged header number header_data None = Unopened
-judged header number header_data (Some payload) =
-    if reserved_bits header (first_byte header_data) == 0 then Opened (source_of header) (token_of header) (spin_of header) number payload else Reserved number
+-- what its key made of the payload, where the key opens it: these keys of the ring, if it is a 1-RTT packet, by which its sender may have made
+-- an update that it wasn't allowed to make. Its reserved bits are looked at first (RFC 9000, section 17.2; RFC 9001, section 6.2)
+abbrev pub judged : Header → ℕ → List ℕ → Option Which → (bad : Bool) → Option (List ℕ) → Opening
+judged header number header_data which bad None = Unopened
+judged header number header_data which bad (Some payload) =
+    if reserved_bits header (first_byte header_data) == 0
+    then (if bad then Untimely number else Opened (source_of header) (token_of header) (spin_of header) which number payload)
+    else Reserved number
 
 module _ {P : Type 0} where
-  -- a 1-RTT packet that names the keys of the next epoch: its sender updated its keys (RFC 9001, section 6)
-  abbrev pub names_next : Header → Option (Keyed P) → ℕ → Bool
-  names_next header ring number = are_next (which_in header ring number)
+  -- an unmasked packet with this number under the key that it names
+  abbrev pub opened_numbered : (opening : P → OpeningFunction) → (plain : Option P) → (ring : Option (Keyed P)) → (rx number : ℕ) → Header → (header_data sealed : List ℕ) → Opening
+  opened_numbered opening plain ring rx number header header_data sealed =
+      judged header number header_data (which_in header ring number) (is_bad_update (which_in header ring number) ring rx number)
+      (opened_under_key opening (key_named header plain None ring number) number header_data sealed)
 
   -- an unmasked packet under the keys of the peer that it may name, its form's own one or one of the ring: its header, the header's
-  -- bytes, and the bytes behind it
+  -- bytes, and the bytes behind it. An update is one that its sender wasn't allowed to make where the packet's number isn't above all that were
+  -- accepted, or this end didn't answer the one before yet (RFC 9001, sections 6.2 and 6.4).
   unfoldable pub opened_by : (opening : P → OpeningFunction) → (plain : Option P) → (ring : Option (Keyed P)) → (rx : ℕ) → Header → (header_data sealed : List ℕ) → Opening
-  opened_by opening plain ring rx header header_data sealed =
-      if names_next header ring (whole_number (header_number header) rx) then Unreadable
-      else judged header (whole_number (header_number header) rx) header_data
-      (opened_under_key opening (key_named header plain None ring (whole_number (header_number header) rx)) (whole_number (header_number header) rx) header_data sealed)
+  opened_by opening plain ring rx header header_data sealed = opened_numbered opening plain ring rx (whole_number (header_number header) rx) header header_data sealed
 
   -- a packet whose mask was taken off
   abbrev pub unmasked_under : (opening : P → OpeningFunction) → Option P → Option (Keyed P) → (rx : ℕ) → Piece → (bytes : List ℕ) → Opening

@@ -32,7 +32,7 @@ use Rattle.qc_state.specs.declared.life.ConnectionError.TheVariants as lost
 use Rattle.qc_state.specs.declared.opening.Opening.{Opening}
 use Rattle.qc_state.specs.declared.opening.Signs.{Signs}
 use Rattle.qc_state.specs.declared.transmit.TheConstants.{DATAGRAM_SIZE}
-use Rattle.qc_state.specs.declared.opening.Opening.TheVariants.{Unreadable, Unopened, Reserved, Opened}
+use Rattle.qc_state.specs.declared.opening.Opening.TheVariants.{Unreadable, Unopened, Reserved, Untimely, Opened}
 use Rattle.qc_state.specs.Acks.{acknowledges_any}
 use Rattle.qc_state.specs.Keys.{fails_too_often}
 use Rattle.qc_state.specs.Life.{is_open, is_over, is_handshake, is_established}
@@ -47,7 +47,8 @@ use Rattle.qc_state.specs.Progress.{progress_after}
 use Rattle.qc_state.specs.Recovering.{settled_by}
 use Rattle.qc_state.specs.Sending.{initial_left}
 use Rattle.qc_state.specs.Setup.{is_first_awaited}
-use Rattle.qc_state.specs.Stopping.{buffer_error, encoding_error_at, given_after, internal_error_at, key_limit_error, killed_after, stopped_after, violation_at}
+use Rattle.qc_state.specs.Stopping.{buffer_error, encoding_error_at, given_after, internal_error_at, key_limit_error, killed_after, stopped_after, update_error, violation_at}
+use Rattle.qc_state.specs.Updating.{unsealed_after}
 use Rattle.qc_state.specs.Types.{Types, Meaning}
 use Rattle.qc_state.specs.Verdicts.{verdict_of}
 use Rattle.qc_state.specs.View.{View, At}
@@ -163,7 +164,8 @@ abbrev pub opened_token : Opening → Option (List ℕ)
 opened_token Unreadable = None
 opened_token Unopened = None
 opened_token (Reserved number) = None
-opened_token (Opened source token spin number payload) = Some token
+opened_token (Untimely number) = None
+opened_token (Opened source token spin which number payload) = Some token
 
 -- what a frame leaves of its packet, and of the connection
 pub data Behind (t : Types) : Type 0 where
@@ -382,13 +384,16 @@ module _ {t : Types} where
       let b : At t = piece_told space None verdict.Failure (move_to Fail a) in
       if fails_too_often b.state.keys then killed_after (lost.TransportError key_limit_error) b else b
 
-  -- a packet of a form with this space, by what came of taking its protection off
+  -- A packet of a form with this space, by what came of taking its protection off. One that opened makes its step of the ring first; one with
+  -- reserved bits, or with an update that its sender wasn't allowed to make, makes none, and its number doesn't count (RFC 9001, section 6.2).
   abbrev pub opening_after : Meaning t → Coming → Option SpaceId → Opening → At t → At t
   opening_after m coming space Unreadable a = piece_told space None verdict.Ignored a
   opening_after m coming space Unopened a = failed_after space a
   opening_after m coming space (Reserved number) a = stopped_after coming.time (violation_at None) (piece_told space (Some number) verdict.BadBits a)
-  opening_after m coming (Some id) (Opened source token spin number payload) a = received_after m coming id spin source token number payload a
-  opening_after m coming None (Opened source token spin number payload) a = piece_told None None verdict.Ignored a
+  opening_after m coming space (Untimely number) a = stopped_after coming.time update_error (piece_told space (Some number) verdict.BadUpdate a)
+  opening_after m coming (Some id) (Opened source token spin which number payload) a =
+      received_after m coming id spin source token number payload (unsealed_after m coming.time which number a)
+  opening_after m coming None (Opened source token spin which number payload) a = piece_told None None verdict.Ignored a
 
   -- one packet; behind one that ended the connection, or made it drain, it is ignored
   unfoldable pub piece_after : Meaning t → Coming → Piece → At t → At t

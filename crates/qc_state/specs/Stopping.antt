@@ -35,6 +35,10 @@ parameter_error = record { code = 0x08; frame = None }
 abbrev pub missing_parameters : TransportError
 missing_parameters = record { code = 0x16d; frame = None }
 
+-- the peer updated its keys where it wasn't allowed to (RFC 9001, sections 6.2 and 6.4)
+abbrev pub update_error : TransportError
+update_error = record { code = 0x0e; frame = None }
+
 -- a key has sealed, or failed to open, as many packets as it may (RFC 9001, section 6.6)
 abbrev pub key_limit_error : TransportError
 key_limit_error = record { code = 0x0f; frame = None }

@@ -1,10 +1,11 @@
--- What the timers do that have come, each in its turn (RFC 9000, sections 5.1.2, 10.1, 10.2 and 13.2.1; RFC 9002, section 6.2).
+-- What the timers do that have come, each in its turn (RFC 9000, sections 5.1.2, 10.1, 10.2 and 13.2.1; RFC 9001, section 6.5; RFC 9002,
+-- section 6.2).
 use Rattle.std.specs.Prelude.{ℕ, if◌then◌else◌}
 use Rattle.qc_state.specs.declared.life.ConnectionError.TheVariants.{TimedOut}
 use Rattle.qc_state.specs.declared.life.State.TheVariants.{Drained}
 use Rattle.qc_cids.specs.Cids.{asks_anew}
 use Rattle.qc_state.specs.Life.{is_drained, is_open}
-use Rattle.qc_state.specs.Moves.{Fire, Outlive, Pace, Raise, Release, Want, armed_after, move_to}
+use Rattle.qc_state.specs.Moves.{Discard, Fire, Outlive, Pace, Raise, Release, Want, armed_after, move_to}
 use Rattle.qc_state.specs.Recovering.{fired_by}
 use Rattle.qc_state.specs.Stopping.{killed_after}
 use Rattle.qc_state.specs.Timers.{has_come}
@@ -28,6 +29,10 @@ module _ {t : Types} where
   unfoldable pub close_expired : (time : ℕ) → At t → At t
   close_expired time a = if has_come a.state.timers.close time then move_to (Raise Drained) a else a
 
+  -- keys of the epoch before were kept for long enough once they had a floor: they are dropped (RFC 9001, section 6.5)
+  unfoldable pub keys_expired : (time : ℕ) → At t → At t
+  keys_expired time a = if has_come a.state.timers.key_discard time then move_to Discard a else a
+
   -- the pacer held a datagram back for long enough: it may go, by a transmit
   unfoldable pub pacing_expired : (time : ℕ) → At t → At t
   pacing_expired time a = if has_come a.state.timers.pacing time then move_to Pace a else a
@@ -43,4 +48,4 @@ module _ {t : Types} where
 
   -- the timers that have come at this time, one after the other; in a connection that has ended none is left
   unfoldable pub timeout_after : Meaning t → (time : ℕ) → At t → At t
-  timeout_after m time a = if is_drained a.state.life.state then a else ack_expired time (ids_expired time (pacing_expired time (close_expired time (idle_expired time (loss_expired m time a)))))
+  timeout_after m time a = if is_drained a.state.life.state then a else ack_expired time (ids_expired time (pacing_expired time (keys_expired time (close_expired time (idle_expired time (loss_expired m time a))))))

@@ -87,6 +87,14 @@ timers_issued v oldest time = record v { push_new_cid = if is_none v.push_new_ci
 unfoldable pub timers_outlived : Timers → Timers
 timers_outlived v = record v { push_new_cid = None }
 
+-- the keys of the epoch before got a floor at this time: with one they are kept for three probe timeouts (RFC 9001, section 6.5)
+unfoldable pub timers_keeping : Timers → (probe time : ℕ) → Timers
+timers_keeping v probe time = record v { key_discard = Some (plus time (times probe 3)) }
+
+-- they were kept for as long as that
+unfoldable pub timers_discarded : Timers → Timers
+timers_discarded v = record v { key_discard = None }
+
 -- every timer is stopped
 unfoldable pub timers_stopped : Timers → Timers
 timers_stopped v = record v {

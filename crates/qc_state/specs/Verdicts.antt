@@ -25,9 +25,10 @@ is_other_token _ _ token = false
 
 module _ {t : Types} where
   -- The rows for a packet of this space with this source id, token and number that opened and whose reserved bits are 0. Those
-  -- before stand in the opening: Ignored without a key or a sample, Failure where its key doesn't open it, BadBits. Not
+  -- before stand in the opening: Ignored without a key or a sample, Failure where its key doesn't open it, BadBits, and BadUpdate where it
+  -- shows an update that its sender wasn't allowed to make (RFC 9001, sections 6.2 and 6.4). Not
   -- there so far, each with the place where it will stand: Reset, a stateless reset, behind Ignored (RFC 9000, section 10.3);
-  -- BadUpdate, a key update that breaks a rule, behind BadBits (RFC 9001, section 6); and of the forms that have no number, which are
+  -- and of the forms that have no number, which are
   -- all Ignored, RetryTaken and Versions, behind all others (RFC 9000, sections 6.2 and 17.2.5).
   abbrev pub rows : View t → SpaceId → (source token : List ℕ) → ℕ → List (Bool × Verdict)
   rows s id source token number =

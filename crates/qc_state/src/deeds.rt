@@ -35,6 +35,8 @@ pub enum Verdict {
     Failure,
     /// Its reserved bits weren't 0 (RFC 9000, 17.2).
     BadBits,
+    /// It shows a key update that its sender wasn't allowed to make (RFC 9001, 6.2 and 6.4).
+    BadUpdate,
     /// A packet with its number had come before (RFC 9000, 12.3).
     Seen,
     /// This end had closed: only a close in it counts.

@@ -1,11 +1,12 @@
 //! The keys of the three spaces, with the packets that each has sealed.
 
-ghost use Rattle.std.specs.Prelude.{◌≡◌};
+ghost use Rattle.std.specs.Prelude.{◌≡◌, Some};
 ghost use Rattle.std.specs.Option.{option_copied, option_map};
-ghost use Rattle.qc_state.specs.Keys.{HandshakeKeys, DataKeys, count_one, ring_used, key_used, failure_counted, first_keys, has_keys, header_key, packet_key, unmasking_key, opening_key, ring_of, phase_with, phase_now, new_keys, new_ring, plain_usage, ring_usage, usage_of, plain_integrity, ring_integrity, reaches_limit, integrity_limit_of, exceeds_limit, fails_too_often, keys_given, keys_dropped, form_in, has_keys_for, epoch_with, epoch_in, epoch_keys};
+ghost use Rattle.qc_state.specs.Keys.{HandshakeKeys, DataKeys, count_one, ring_used, key_used, failure_counted, first_keys, has_keys, header_key, packet_key, unmasking_key, opening_key, ring_of, phase_with, phase_now, new_keys, new_ring, plain_usage, ring_usage, usage_of, plain_integrity, ring_integrity, reaches_limit, integrity_limit_of, exceeds_limit, fails_too_often, keys_given, keys_dropped, form_in, has_keys_for, epoch_with, epoch_in, epoch_keys, fresh_with, fresh_for, fresh_keys, with_ring, ring_opened, key_opened, sets_floor, ring_acked, key_acked, ring_discarded, key_discarded};
+ghost use Rattle.qc_rings.specs.Keyed.{keyed_opened};
 
 use crate::form::Form;
-use qc_base::SpaceId;
+use qc_base::{Instant, SpaceId};
 use qc_crypto::{KeyPair, Keys, PacketKey};
 use qc_packet::{KeyRing, Which};
 
@@ -63,6 +64,47 @@ impl<H, P: PacketKey> OneRttKeys<H, P> {
             ring: KeyRing::new(keys.packet, next),
             confidentiality_limit,
             integrity_limit,
+        }
+    }
+}
+
+/// What a ring takes with it into a new epoch (RFC 9001, 6.1 and 6.6).
+#[derive(Drop)]
+pub struct Fresh<P> {
+    /// The packet keys of the epoch behind the new one.
+    pub keys: KeyPair<P>,
+    /// How many packets the local packet key of the new epoch may seal.
+    pub confidentiality_limit: u64,
+    /// How many packets of the peer may fail to open in it.
+    pub integrity_limit: u64,
+}
+
+/// The same with these keys, by the ring as it stands before.
+fn fresh_with<P: PacketKey>(ring: &KeyRing<P>, keys: KeyPair<P>) -> Fresh<P>
+    ensures { result ≡ fresh_with P.seal_limit P.failure_limit ring.now keys }
+{
+    match ring.key(Which::Next) {
+        None => unreachable!(),
+        Some(next) => Fresh {
+            keys,
+            confidentiality_limit: next.local.confidentiality_limit(),
+            integrity_limit: next.local.integrity_limit(),
+        },
+    }
+}
+
+impl<H: Drop, P: Drop> OneRttKeys<H, P> {
+    /// A packet of this number was opened by these keys of the ring; the next ones begin a new epoch, with what that takes with it.
+    fn opened(&mut self, which: Which, number: u64, now: Instant, fresh: Option<Fresh<P>>)
+        ensures { self.new ≡ with_ring self.old fresh (keyed_opened self.old.ring which number (fresh_keys fresh)) }
+    {
+        match fresh {
+            None => self.ring.opened(which, number, now, None),
+            Some(fresh) => {
+                self.ring.opened(which, number, now, Some(fresh.keys));
+                self.confidentiality_limit = fresh.confidentiality_limit;
+                self.integrity_limit = fresh.integrity_limit;
+            }
         }
     }
 }
@@ -132,6 +174,56 @@ fn count_in_ring<H, P: Drop>(keys: &mut Option<OneRttKeys<H, P>>, number: u64)
     }
 }
 
+/// A packet of this number was opened by these keys of the ring, where there is one.
+#[tactic(auto, unfolding(crate::specs::Keys::ring_opened))]
+fn open_in_ring<H: Drop, P: Drop>(
+    keys: &mut Option<OneRttKeys<H, P>>,
+    which: Which,
+    number: u64,
+    now: Instant,
+    fresh: Option<Fresh<P>>,
+)
+    ensures { keys.new ≡ ring_opened which number fresh keys.old }
+{
+    if let Some(keys) = keys {
+        keys.opened(which, number, now, fresh);
+    }
+}
+
+/// A packet of this number was acknowledged, where there are any.
+#[tactic(auto, unfolding(crate::specs::Keys::ring_acked))]
+fn acknowledge_in_ring<H, P: Drop>(keys: &mut Option<OneRttKeys<H, P>>, number: u64)
+    ensures { keys.new ≡ ring_acked number keys.old }
+{
+    if let Some(keys) = keys {
+        keys.ring.acked(number);
+    }
+}
+
+/// The keys of the epoch before are dropped, where they have a floor.
+#[tactic(auto, unfolding(crate::specs::Keys::ring_discarded))]
+fn discard_in_ring<H, P: Drop>(keys: &mut Option<OneRttKeys<H, P>>)
+    ensures { keys.new ≡ ring_discarded keys.old }
+{
+    if let Some(keys) = keys {
+        keys.ring.discard();
+    }
+}
+
+/// Whether a packet that these keys of the ring open sets a floor; `fresh` says that there are keys for a new epoch.
+fn sets_floor<P: Drop>(which: Which, fresh: &Option<Fresh<P>>, ring: Option<&KeyRing<P>>) -> bool
+    ensures { result ≡ sets_floor which fresh.now (option_copied ring.entry) }
+{
+    match which {
+        Which::Next => fresh.is_some(),
+        Which::Current => match ring {
+            None => false,
+            Some(ring) => ring.is_floor_missing(),
+        },
+        Which::Previous => false,
+    }
+}
+
 /// How far the sealing key is used.
 fn plain_usage<H, P>(keys: &Option<SpaceKeys<H, P>>) -> Option<KeyUse>
     ensures { result ≡ option_map plain_usage keys.now }
@@ -198,7 +290,7 @@ fn phase_with<H, P: Drop>(keys: &Option<OneRttKeys<H, P>>) -> bool
     }
 }
 
-#[tactic(auto, unfolding(crate::specs::Keys::key_used, crate::specs::Keys::failure_counted, crate::specs::Keys::has_keys, crate::specs::Keys::header_key, crate::specs::Keys::packet_key, crate::specs::Keys::unmasking_key, crate::specs::Keys::opening_key, crate::specs::Keys::plain_keys, crate::specs::Keys::ring_of, crate::specs::Keys::phase_now, crate::specs::Keys::usage_of, crate::specs::Keys::integrity_limit_of, crate::specs::Keys::keys_given, crate::specs::Keys::keys_dropped, crate::specs::Keys::fails_too_often, crate::specs::Keys::form_in, crate::specs::Keys::has_keys_for, crate::specs::Keys::epoch_in))]
+#[tactic(auto, unfolding(crate::specs::Keys::key_used, crate::specs::Keys::failure_counted, crate::specs::Keys::has_keys, crate::specs::Keys::header_key, crate::specs::Keys::packet_key, crate::specs::Keys::unmasking_key, crate::specs::Keys::opening_key, crate::specs::Keys::plain_keys, crate::specs::Keys::ring_of, crate::specs::Keys::phase_now, crate::specs::Keys::usage_of, crate::specs::Keys::integrity_limit_of, crate::specs::Keys::keys_given, crate::specs::Keys::keys_dropped, crate::specs::Keys::fails_too_often, crate::specs::Keys::form_in, crate::specs::Keys::has_keys_for, crate::specs::Keys::epoch_in, crate::specs::Keys::key_opened, crate::specs::Keys::key_acked, crate::specs::Keys::key_discarded))]
 impl<H: Drop, P: Drop> KeyGroup<H, P> {
     /// The group of a connection that was just made, with the keys of its Initial space.
     pub fn new(initial: SpaceKeys<H, P>) -> KeyGroup<H, P>
@@ -433,6 +525,50 @@ impl<H: Drop, P: Drop> KeyGroup<H, P> {
             Form::Handshake => count(&mut self.handshake),
             Form::Early => {}
             Form::OneRtt => count_in_ring(&mut self.data, number),
+        }
+    }
+
+    /// A 1-RTT packet of this number was opened by these keys of the ring; the next ones begin a new epoch, with what that takes with it.
+    pub fn opened(&mut self, which: Which, number: u64, now: Instant, fresh: Option<Fresh<P>>)
+        ensures { self.new ≡ key_opened self.old which number fresh }
+    {
+        open_in_ring(&mut self.data, which, number, now, fresh);
+    }
+
+    /// Whether such a packet sets a floor (RFC 9001, 6.5); `fresh` says that there are keys for a new epoch.
+    pub fn sets_floor(&self, which: Which, fresh: &Option<Fresh<P>>) -> bool
+        ensures { result ≡ sets_floor which fresh.now (ring_of self.now) }
+    {
+        sets_floor(which, fresh, self.ring())
+    }
+
+    /// The packet of this number in the space was acknowledged, and perhaps others below it.
+    pub fn acked(&mut self, space: SpaceId, number: u64)
+        ensures { self.new ≡ key_acked self.old space number }
+    {
+        match space {
+            SpaceId::Initial | SpaceId::Handshake => {}
+            SpaceId::Data => acknowledge_in_ring(&mut self.data, number),
+        }
+    }
+
+    /// The keys of the epoch before are dropped, where they have a floor (RFC 9001, 6.5).
+    pub fn discard(&mut self)
+        ensures { self.new ≡ key_discarded self.old }
+    {
+        discard_in_ring(&mut self.data);
+    }
+}
+
+impl<H: Drop, P: PacketKey> KeyGroup<H, P> {
+    /// What the ring takes with it into a new epoch, with these keys of the one behind it. None exactly without these, or without 1-RTT
+    /// keys.
+    pub fn fresh(&self, keys: Option<KeyPair<P>>) -> Option<Fresh<P>>
+        ensures { result ≡ fresh_for P.seal_limit P.failure_limit self.now.data keys }
+    {
+        match (&self.data, keys) {
+            (Some(data), Some(keys)) => Some(fresh_with(&data.ring, keys)),
+            _ => None,
         }
     }
 }

@@ -45,7 +45,7 @@ pub use events::{EndpointEvent, EndpointEvents, Event, Events};
 pub use form::Form;
 pub use id_list::IdList;
 pub use input::{Input, Word};
-pub use keys::{KeyGroup, KeyUse, OneRttKeys, SpaceKeys};
+pub use keys::{Fresh, KeyGroup, KeyUse, OneRttKeys, SpaceKeys};
 pub use life::{ApplicationClose, Close, ConnectionClose, ConnectionError, Life, State};
 pub use lower::Lower;
 pub use numbers::{Numbers, SpaceNumbers};

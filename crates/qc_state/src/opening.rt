@@ -2,6 +2,7 @@
 
 use bytes::Bytes;
 use qc_base::{ConnectionId, EcnCodepoint};
+use qc_packet::Which;
 
 /// What a packet shows to the network, and the network to it.
 #[derive(Clone, Copy)]
@@ -24,6 +25,11 @@ pub enum Opening {
         /// Its whole number.
         number: u64,
     },
+    /// The next keys of the ring opened it, where its sender wasn't allowed to update its keys (RFC 9001, 6.2 and 6.4).
+    Untimely {
+        /// Its whole number.
+        number: u64,
+    },
     /// It opened.
     Opened {
         /// The source id of its header.
@@ -32,6 +38,8 @@ pub enum Opening {
         token: Bytes,
         /// The spin bit of its header; false where its form has none.
         spin: bool,
+        /// Which keys of the ring opened it; None where its form isn't 1-RTT.
+        which: Option<Which>,
         /// Its whole number.
         number: u64,
         /// Its payload.

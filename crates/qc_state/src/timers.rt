@@ -1,7 +1,7 @@
 //! The timers, and the greatest time so far.
 
 ghost use Rattle.std.specs.Prelude.{◌≡◌};
-ghost use Rattle.qc_state.specs.Timers.{no_timers, timers_sealed, timers_acking, timers_stopped, timers_closing, timers_accepted, timers_holding, timers_paced, timers_held, timers_released, timers_issued, timers_outlived, timers_armed, clock_set, next_timeout, least, idle_from, has_come};
+ghost use Rattle.qc_state.specs.Timers.{no_timers, timers_sealed, timers_acking, timers_stopped, timers_closing, timers_accepted, timers_holding, timers_paced, timers_held, timers_released, timers_issued, timers_outlived, timers_armed, timers_keeping, timers_discarded, clock_set, next_timeout, least, idle_from, has_come};
 
 use qc_base::{Duration, Instant};
 
@@ -18,7 +18,7 @@ pub struct Timers {
     pub idle: Option<Instant>,
     /// When a connection that closed has waited long enough for its peer (RFC 9000, 10.2).
     pub close: Option<Instant>,
-    /// When keys that are no longer needed are dropped (RFC 9001, 6.5). No call sets it so far, since keys aren't updated yet.
+    /// When 1-RTT keys of the epoch before, which have a floor, are dropped (RFC 9001, 6.5).
     pub key_discard: Option<Instant>,
     /// When a path that is being validated has failed (RFC 9000, 8.2.4). No call sets it so far, since a connection keeps to its path.
     pub path_validation: Option<Instant>,
@@ -81,7 +81,7 @@ fn idle_at(
     }
 }
 
-#[tactic(auto, unfolding(crate::specs::Timers::timers_sealed, crate::specs::Timers::timers_stopped, crate::specs::Timers::timers_closing, crate::specs::Timers::timers_accepted, crate::specs::Timers::timers_armed, crate::specs::Timers::timers_holding, crate::specs::Timers::timers_acking, crate::specs::Timers::timers_paced, crate::specs::Timers::timers_held, crate::specs::Timers::timers_released, crate::specs::Timers::timers_issued, crate::specs::Timers::timers_outlived, crate::specs::Timers::clock_set, crate::specs::Timers::next_timeout))]
+#[tactic(auto, unfolding(crate::specs::Timers::timers_sealed, crate::specs::Timers::timers_stopped, crate::specs::Timers::timers_closing, crate::specs::Timers::timers_accepted, crate::specs::Timers::timers_armed, crate::specs::Timers::timers_holding, crate::specs::Timers::timers_acking, crate::specs::Timers::timers_paced, crate::specs::Timers::timers_held, crate::specs::Timers::timers_released, crate::specs::Timers::timers_issued, crate::specs::Timers::timers_outlived, crate::specs::Timers::timers_keeping, crate::specs::Timers::timers_discarded, crate::specs::Timers::clock_set, crate::specs::Timers::next_timeout))]
 impl Timers {
     /// The timers of a connection that begins at `now`: none is set.
     pub fn new(now: Instant) -> Timers
@@ -174,6 +174,21 @@ impl Timers {
         ensures { self.new ≡ timers_outlived self.old }
     {
         self.push_new_cid = None;
+    }
+
+    /// The keys of the epoch before got a floor at `now`: with one they are kept for three probe timeouts (RFC 9001, 6.5).
+    pub fn keep(&mut self, probe: Duration, now: Instant)
+        ensures { self.new ≡ timers_keeping self.old probe now }
+    {
+        let kept = Duration::from_nanos(probe.nanos().saturating_mul(3));
+        self.key_discard = Some(now.plus(kept));
+    }
+
+    /// They were kept for as long as that.
+    pub fn discard(&mut self)
+        ensures { self.new ≡ timers_discarded self.old }
+    {
+        self.key_discard = None;
     }
 
     /// The loss timer is set to a time, or stopped.

@@ -113,7 +113,7 @@ other_line id x ends s can keeps other holds h =
 
     by : SteppedAt id x s
         → LineIf (was_opened (after_step x s).side (after_step x s).own (after_step x s).peer id) (end_on id ends) (record_of id (after_step x s).records)
-    by (Gone none) =
+    by (Gone none why) =
         subst (λ (o : Option Stream). LineIf (was_opened (after_step x s).side (after_step x s).own (after_step x s).peer id) (end_on id ends) o) (sym none)
         (gone (was_opened s.side s.own s.peer id) refl)
     by (There st next from stepped is) =
@@ -123,7 +123,7 @@ other_line id x ends s can keeps other holds h =
 
 -- what is made of a stream then leaves its line
 later_line : (n : ℕ) (opened : Bool) (o p : Option Stream) → Later o p → LineIf true n o → (opened ≡ false → n ≡ 0) → LineIf opened n p
-later_line n opened o p (Left none) line new = subst (λ (q : Option Stream). LineIf opened n q) (sym none) new
+later_line n opened o p (Left none sent) line new = subst (λ (q : Option Stream). LineIf opened n q) (sym none) new
 later_line n opened o p (Kept st now from to receiving sending) line new =
     subst (λ (q : Option Stream). LineIf opened n q) (sym to)
     (subst (λ (r : Option Recv). SideIf n r) (sym receiving) (subst (λ (q : Option Stream). LineIf true n q) from line))

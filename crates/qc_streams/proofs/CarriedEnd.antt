@@ -87,7 +87,7 @@ side_told id x (Some r) is = told_to id x r is
 told_then : (id : ℕ) (x : Step) (s : StreamsState) → HasOpened id s → SteppedAt id x s
     → ((st : Stream) → record_of id s.records ≡ Some st → IsTold (option_map (came_to id x) st.receiving)) → IsTold (receiving_at id (after_step x s))
 unfolding receiving_at
-told_then id x s opened (Gone gone) tells = subst (λ (o : Option Stream). IsTold (receiving_of o)) (sym gone) tt
+told_then id x s opened (Gone gone why) tells = subst (λ (o : Option Stream). IsTold (receiving_of o)) (sym gone) tt
 told_then id x s opened (There st then from stepped there) tells =
     subst (λ (o : Option Stream). IsTold (receiving_of o)) (sym there) (subst (λ (p : Option Recv). IsTold p) (sym stepped.receiving) (by from))
   where

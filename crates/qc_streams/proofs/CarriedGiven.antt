@@ -154,7 +154,7 @@ side_then : (id : ℕ) (x : Step) (s : StreamsState) (all bytes : List (ℕ × �
     → Holds s → Carries id s all bytes → SteppedAt id x s → receiving_at id (after_step x s) ≡ Some q
     → WhileLive (with_came id x all) (with_given id x bytes) q
 unfolding receiving_at
-side_then id x s all bytes q takes answers keeps h c (Gone gone) is =
+side_then id x s all bytes q takes answers keeps h c (Gone gone why) is =
     absurd (some_not_none (receiving_at id (after_step x s)) q (ap (λ (o : Option Stream). receiving_of o) gone) is)
 side_then id x s all bytes q takes answers keeps h c (There st then from stepped there) is =
     let found = mapped (came_to id x) st.receiving q (sym stepped.receiving ∙ sym (ap (λ (o : Option Stream). receiving_of o) there) ∙ is) in

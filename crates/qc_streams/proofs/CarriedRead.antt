@@ -162,7 +162,7 @@ side_then : (id : ℕ) (x : Step) (s : StreamsState) (all : List (ℕ × ℕ)) (
     → keeps_streams x ≡ true → Holds s → Carries id s all read → SteppedAt id x s → receiving_at id (after_step x s) ≡ Some q
     → WhileLive (with_came id x all) (with_read id x read) q
 unfolding receiving_at
-side_then id x s all read q takes answers order keeps h c (Gone gone) is =
+side_then id x s all read q takes answers order keeps h c (Gone gone why) is =
     absurd (some_not_none (receiving_at id (after_step x s)) q (ap (λ (o : Option Stream). receiving_of o) gone) is)
 side_then id x s all read q takes answers order keeps h c (There st then from stepped there) is =
     let found = mapped (came_to id x) st.receiving q (sym stepped.receiving ∙ sym (ap (λ (o : Option Stream). receiving_of o) there) ∙ is) in

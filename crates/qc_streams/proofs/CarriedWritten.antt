@@ -167,11 +167,11 @@ pub absent : (id : ℕ) (s : StreamsState) → Holds s → was_opened s.side s.o
 absent id s holds new = unopened (was_opened s.side s.own s.peer) id s.records s.blocked holds new
 
 -- nothing was written, nor is by the step, where the stream wasn't opened
-new_empty : (id : ℕ) (written : List ℕ) (s : StreamsState) → Holds s → was_opened s.side s.own s.peer id ≡ false → CarriesAt id written s → written ≡ []
+pub new_empty : (id : ℕ) (written : List ℕ) (s : StreamsState) → Holds s → was_opened s.side s.own s.peer id ≡ false → CarriesAt id written s → written ≡ []
 new_empty id written s holds new h =
     subst (λ (o : Option Stream). Carries (was_opened s.side s.own s.peer id) written o) (absent id s holds new) h new
 
-new_none : (id : ℕ) (x : Step) (s : StreamsState) → Holds s → was_opened s.side s.own s.peer id ≡ false → IsTaken x s → WritesNone id x
+pub new_none : (id : ℕ) (x : Step) (s : StreamsState) → Holds s → was_opened s.side s.own s.peer id ≡ false → IsTaken x s → WritesNone id x
 unfolding known_at
 new_none id x s holds new taken = unknown_none id x s (ap (λ (o : Option Stream). known_of o) (absent id s holds new)) taken
 
@@ -250,7 +250,7 @@ module _ (steps : Steps) (stays : StaysOpened) where
   kept_carries id x written s can keeps holds taken h = by (steps id x s can holds)
     where
       by : SteppedAt id x s → CarriesAt id (with_written id x written) (after_step x s)
-      by (Gone none) =
+      by (Gone none why) =
           subst (λ (o : Option Stream). Carries (was_opened (after_step x s).side (after_step x s).own (after_step x s).peer id) (with_written id x written) o)
           (sym none) (gone_carries id x written s can keeps holds taken h)
       by (There st next from stepped is) =

@@ -38,7 +38,7 @@ use Rattle.qc_streams.proofs.Keyed.{same_id}
 -- ---- what was written and acknowledged
 
 -- nothing is written where the application doesn't know the stream
-written_same : (id : ℕ) (x : Step) (written : List ℕ) → keeps_streams x ≡ true → WritesNone id x → with_written id x written ≡ written
+pub written_same : (id : ℕ) (x : Step) (written : List ℕ) → keeps_streams x ≡ true → WritesNone id x → with_written id x written ≡ written
 unfolding keeps_streams with_written
 written_same id (Wrote j n chunk) written keeps none = by (j == id) refl
   where
@@ -52,7 +52,7 @@ if_true : (b c : Bool) → c ≡ true → cond b true c ≡ true
 if_true true c is = refl
 if_true false c is = is
 
-acked_more : (id o : ℕ) (x : Step) (acked : Bool) → keeps_streams x ≡ true → acked ≡ true → with_acked id o x acked ≡ true
+pub acked_more : (id o : ℕ) (x : Step) (acked : Bool) → keeps_streams x ≡ true → acked ≡ true → with_acked id o x acked ≡ true
 unfolding keeps_streams with_acked
 acked_more id o (BytesAcked j start stop last) acked keeps is = if_true (j == id && (nat_le start o && nat_lt o stop)) acked is
 acked_more id o EarlyRefused acked keeps is = absurd (false≢true keeps)
@@ -114,7 +114,7 @@ come_side id acked ended s st (PeerOpened dir is new) h = subst (λ (z : Stream)
 
 side_after : (id : ℕ) (x : Step) (acked : ℕ → Bool) (ended : Bool) (s : StreamsState) → keeps_streams x ≡ true → SteppedAt id x s
     → SideAt acked ended (record_of id s.records) → SideAt (λ i. with_acked id i x (acked i)) (with_ended id x ended) (record_of id (after_step x s).records)
-side_after id x acked ended s keeps (Gone none) h =
+side_after id x acked ended s keeps (Gone none why) h =
     subst (λ (o : Option Stream). SideAt (λ i. with_acked id i x (acked i)) (with_ended id x ended) o) (sym none) tt
 side_after id x acked ended s keeps (There st next from stepped is) h =
     subst (λ (o : Option Stream). SideAt (λ i. with_acked id i x (acked i)) (with_ended id x ended) o) (sym is)
@@ -144,7 +144,7 @@ all_mapped id x (Some p) keeps all = all_stays id x p keeps all
 
 all_after : (id : ℕ) (x : Step) (s : StreamsState) → keeps_streams x ≡ true → was_opened s.side s.own s.peer id ≡ true → SteppedAt id x s
     → ((st : Stream) → record_of id s.records ≡ Some st → AllIf (option_map (sent_to id x) st.sending)) → AllAt (record_of id (after_step x s).records)
-all_after id x s keeps opened (Gone none) all = subst (λ (o : Option Stream). AllAt o) (sym none) tt
+all_after id x s keeps opened (Gone none why) all = subst (λ (o : Option Stream). AllAt o) (sym none) tt
 all_after id x s keeps opened (There st next (Stood is) stepped to) all =
     subst (λ (o : Option Stream). AllAt o) (sym to) (all_alike (option_map (sent_to id x) st.sending) next.sending stepped.sending (all st is))
 all_after id x s keeps opened (There st next (OwnOpened dir is new) stepped to) all = absurd (false≢true (sym new ∙ opened))

@@ -119,7 +119,7 @@ same-stream : (a b : Stream) → Some a ≡ Some b → a ≡ b
 same-stream a b is = cc
 
 stepped_known : (id : ℕ) (x : Step) (s : StreamsState) → StopsKnown s → SteppedAt id x s → (st : Stream) → record_of id (after_step x s).records ≡ Some st → KnownIf st.receiving
-stepped_known id x s h (Gone gone) st is = let no : None ≡ Some st = sym gone ∙ is in absurd (cc)
+stepped_known id x s h (Gone gone why) st is = let no : None ≡ Some st = sym gone ∙ is in absurd (cc)
 stepped_known id x s h (There st then from stepped there) later is =
     subst (λ (y : Stream). KnownIf y.receiving) (same-stream then later (sym there ∙ is))
     (subst (λ (p : Option Recv). KnownIf p) (sym stepped.receiving) (side_then id x st.receiving (from_known id s st h from)))

@@ -6,7 +6,7 @@ use Rattle.qc_recv.specs.declared.recv.Recv.{Recv}
 use Rattle.qc_recv.specs.Owed.{credit_lost, credit_sealed, stop_lost, stop_sealed}
 use Rattle.qc_recv.specs.Receiving.{opened, reset_asked, reset_taken, stop_asked, stream_taken}
 use Rattle.qc_send_stream.specs.declared.send.SendPart.{SendPart}
-use Rattle.qc_send_stream.specs.Sending.{finished, part_acked, part_lost, part_sealed, part_written, reset_acked, reset_lost, reset_sealed, was_reset}
+use Rattle.qc_send_stream.specs.Sending.{finished, is_done, part_acked, part_lost, part_sealed, part_written, reset_acked, reset_lost, reset_sealed, was_reset}
 use Rattle.qc_streams.specs.declared.control.Control.{Control}
 use Rattle.qc_streams.specs.declared.control.Control.TheVariants.{Reset, Stop, MaxData, MaxStreamData, MaxStreams}
 use Rattle.qc_streams.specs.declared.state.StreamsState.{StreamsState}
@@ -88,9 +88,20 @@ pub data ComesFrom (id : ℕ) (s : StreamsState) (st : Stream) : Type 0 where
   OwnOpened : (dir : Dir) → st ≡ fresh_own dir s → was_opened s.side s.own s.peer id ≡ false → ComesFrom id s st
   PeerOpened : (dir : Dir) → st ≡ fresh_peer dir s → was_opened s.side s.own s.peer id ≡ false → ComesFrom id s st
 
+-- nothing of a stream is left to be sent or acknowledged behind a step
+abbrev pub IsDoneBehind : ℕ → Step → Stream → Type 0
+IsDoneBehind id x st = (p : SendPart) → st.sending ≡ Some p → is_done (sent_to id x p) ≡ true
+
+-- Why there is no stream with an id after a step: there was none before it, nothing was left to be sent of it, or the server refused early
+-- data
+pub data WhyGone (id : ℕ) (x : Step) (s : StreamsState) : Type 0 where
+  Never : record_of id s.records ≡ None → WhyGone id x s
+  Done : (st : Stream) → ComesFrom id s st → IsDoneBehind id x st → WhyGone id x s
+  Anew : keeps_streams x ≡ false → WhyGone id x s
+
 -- What a step makes of the stream with an id: there is none after it, or one that came to be so
 pub data SteppedAt (id : ℕ) (x : Step) (s : StreamsState) : Type 0 where
-  Gone : record_of id (after_step x s).records ≡ None → SteppedAt id x s
+  Gone : record_of id (after_step x s).records ≡ None → WhyGone id x s → SteppedAt id x s
   There : (st after : Stream) → ComesFrom id s st → IsStepped id x st after → record_of id (after_step x s).records ≡ Some after → SteppedAt id x s
 
 -- Each step does so

@@ -1,11 +1,14 @@
 -- What a change of one stream, and what follows on it, makes of the stream with an id
-use Rattle.std.proofs.Common.{◌≡◌, ◌∙◌, ℕ, ◌==◌, Bool, true, false, cond, List, [], ◌∷◌, Option, None, Some, is_some, ap, sym, subst, refl}
-use Rattle.std.proofs.lemmas.Bool.{false≢true}
+use Rattle.std.proofs.Common.{◌≡◌, ◌∙◌, ℕ, ◌==◌, Bool, true, false, cond, not, ◌&&◌, List, [], ◌∷◌, Option, None, Some, is_some, ap, sym, subst, refl}
+use Rattle.std.proofs.lemmas.Bool.{and_parts, false≢true}
 use Rattle.std.specs.Prelude.{ℤ}
 use Rattle.std.specs.Option.{option_map}
 use Rattle.qc_recv.specs.declared.recv.Recv.{Recv}
+use Rattle.qc_send_stream.specs.Buffer.{Buffer, has_bytes}
+use Rattle.qc_send_stream.specs.declared.send.Reset.{Reset}
 use Rattle.qc_send_stream.specs.declared.send.SendPart.{SendPart}
-use Rattle.qc_send_stream.specs.Sending.{unblocked}
+use Rattle.qc_send_stream.specs.declared.send.Standing.{Standing}
+use Rattle.qc_send_stream.specs.Sending.{done_with, end_acked, is_done, unblocked}
 use Rattle.qc_streams.specs.declared.state.StreamsState.{StreamsState}
 use Rattle.qc_streams.specs.Blocked.{BlockedIds, is_below}
 use Rattle.qc_streams.specs.Writable.{all_told, has_room, told_first, writables_told}
@@ -13,12 +16,12 @@ use Rattle.qc_streams.specs.declared.stream.Stream.{Stream}
 use Rattle.qc_streams.specs.Lending.{AllRecords}
 use Rattle.qc_streams.specs.StreamBytes.{place_again, turned}
 use Rattle.qc_streams.specs.Records.{changed, on_some, record_of, without}
-use Rattle.qc_streams.specs.Stream.{has_ended, with_freed, with_receiving, with_sending}
+use Rattle.qc_streams.specs.Stream.{has_ended, is_over, receiving_over, sending_over, with_freed, with_receiving, with_sending}
 use Rattle.qc_streams.specs.Streams.{forgotten, left_over, lingering, released, removed, settled, stops_later}
 use Rattle.qc_streams.specs.Queues.{all_filed, dues_at, entered, filed, left, left_from, mark_off, placed, queue_one, queued, sets_filed, touched, turn_at, turn_filed, with_mark, with_turn}
 use Rattle.qc_streams.specs.Waits.{Step, after_step}
 use Rattle.qc_streams.proofs.Keyed.{Ascends, ascends_gone, ascends_set, gone_here, gone_other, same_id, set_other}
-use Rattle.qc_streams.proofs.StepAt.{AlikeIf, ComesFrom, Gone, IsStepped, SendsAlike, SteppedAt, Stood, There, came_to, sent_to}
+use Rattle.qc_streams.proofs.StepAt.{AlikeIf, ComesFrom, Done, Gone, IsStepped, Never, SendsAlike, SteppedAt, Stood, There, came_to, sent_to}
 use Rattle.qc_streams.proofs.Waits.{here}
 
 -- ---- a stream of which the sides stay, or that goes
@@ -39,16 +42,13 @@ alike_then (Some a) None q m n = absurd m
 alike_then (Some a) (Some b) None m n = n
 alike_then (Some a) (Some b) (Some c) m n = record { buffer = n.buffer ∙ m.buffer; end = n.end ∙ m.end; reset = n.reset ∙ m.reset }
 
+-- nothing is left to be sent or acknowledged of a stream, where there is one
+abbrev SentAll : Option Stream → Type 0
+SentAll o = (st : Stream) (p : SendPart) → o ≡ Some st → st.sending ≡ Some p → is_done p ≡ true
+
 pub data Later (o p : Option Stream) : Type 0 where
-  Left : p ≡ None → Later o p
+  Left : p ≡ None → SentAll o → Later o p
   Kept : (st now : Stream) → o ≡ Some st → p ≡ Some now → now.receiving ≡ st.receiving → AlikeIf st.sending now.sending → Later o p
-
-pub later_at : (o : Option Stream) → Later o o
-later_at None = Left refl
-later_at (Some st) = Kept st st refl refl refl (same_alike st.sending st.sending refl)
-
-pub later_same : (o p : Option Stream) → p ≡ o → Later o p
-later_same o p is = subst (λ (x : Option Stream). Later o x) (sym is) (later_at o)
 
 some_is : (st now : Stream) → (let o : Option Stream = Some st in o) ≡ Some now → st ≡ now
 some_is st now is = cc
@@ -56,14 +56,52 @@ some_is st now is = cc
 none_some : {X : Type 0} (st : Stream) (o : Option Stream) → o ≡ None → o ≡ Some st → X
 none_some st o none some = absurd (false≢true (ap (λ (x : Option Stream). is_some x) (sym none ∙ some)))
 
+none_sent : (o : Option Stream) → o ≡ None → SentAll o
+none_sent o none = λ st p is sends. none_some st o none is
+
+-- a side with the same bytes, end and reset is done where the other is
+done_alike : (p q : SendPart) → SendsAlike p q → is_done q ≡ is_done p
+unfolding is_done
+done_alike p q alike =
+    ap (λ (r : Option Reset). done_with r (end_acked q.end && not (has_bytes q.buffer.kept))) alike.reset
+    ∙ ap (λ (e : Option Standing). done_with p.reset (end_acked e && not (has_bytes q.buffer.kept))) alike.end
+    ∙ ap (λ (b : Buffer). done_with p.reset (end_acked p.end && not (has_bytes b.kept))) alike.buffer
+
+some_part : (a p : SendPart) → (let o : Option SendPart = Some a in o) ≡ Some p → a ≡ p
+some_part a p is = cc
+
+done_before : (o next : Option SendPart) → AlikeIf o next → (p : SendPart) → o ≡ Some p → ((q : SendPart) → next ≡ Some q → is_done q ≡ true) → is_done p ≡ true
+done_before None next alike p is done = absurd (false≢true (ap (λ (x : Option SendPart). is_some x) is))
+done_before (Some a) None alike p is done = absurd alike
+done_before (Some a) (Some b) alike p is done = subst (λ (x : SendPart). is_done x ≡ true) (some_part a p is) (sym (done_alike a b alike) ∙ done b refl)
+
+done_behind : (o next : Option SendPart) → AlikeIf o next → (q : SendPart) → next ≡ Some q → ((p : SendPart) → o ≡ Some p → is_done p ≡ true) → is_done q ≡ true
+done_behind o None alike q is done = absurd (false≢true (ap (λ (x : Option SendPart). is_some x) is))
+done_behind None (Some b) alike q is done = absurd alike
+done_behind (Some a) (Some b) alike q is done = subst (λ (x : SendPart). is_done x ≡ true) (some_part b q is) (done_alike a b alike ∙ done a refl)
+
+pub later_at : (o : Option Stream) → Later o o
+later_at None = Left refl (none_sent None refl)
+later_at (Some st) = Kept st st refl refl refl (same_alike st.sending st.sending refl)
+
+pub later_same : (o p : Option Stream) → p ≡ o → Later o p
+later_same o p is = subst (λ (x : Option Stream). Later o x) (sym is) (later_at o)
+
 pub later_then : (o p q : Option Stream) → Later o p → Later p q → Later o q
-later_then o p q (Left is) (Left none) = Left none
-later_then o p q (Left is) (Kept st now from to receiving sending) = none_some st p is from
-later_then o p q (Kept st now from to receiving sending) (Left none) = Left none
+later_then o p q (Left is sent) (Left none more) = Left none sent
+later_then o p q (Left is sent) (Kept st now from to receiving sending) = none_some st p is from
+later_then o p q (Kept st now from to receiving sending) (Left none sent) = Left none (λ other part is sends.
+    done_before st.sending now.sending sending part (ap (λ (y : Stream). y.sending) (some_is st other (sym from ∙ is)) ∙ sends) (λ part_now then. sent now part_now to then))
 later_then o p q (Kept st now from to receiving sending) (Kept st' now' from' to' receiving' sending') =
     let same : now ≡ st' = some_is now st' (sym to ∙ from') in
     Kept st now' from to' (receiving' ∙ ap (λ (x : Stream). x.receiving) (sym same) ∙ receiving)
     (alike_then st.sending now.sending now'.sending sending (subst (λ (x : Stream). AlikeIf x.sending now'.sending) (sym same) sending'))
+
+-- where nothing was left of a stream, nothing is of what it comes to be
+later_sent : (o p : Option Stream) → Later o p → SentAll o → SentAll p
+later_sent o p (Left none all) sent = none_sent p none
+later_sent o p (Kept st now from to receiving sending) sent = λ other part is sends.
+    done_behind st.sending now.sending sending part (ap (λ (y : Stream). y.sending) (some_is now other (sym to ∙ is)) ∙ sends) (λ part_then then. sent st part_then from then)
 
 -- ---- the map of streams
 
@@ -87,7 +125,7 @@ ascends_changed f j all order = ascends-in f j all (record_of j all) order
 
 mapped : (f : Stream → Stream) → ((st : Stream) → (f st).receiving ≡ st.receiving) → ((st : Stream) → AlikeIf st.sending (f st).sending) → (o : Option Stream)
     → Later o (option_map f o)
-mapped f receiving sending None = Left refl
+mapped f receiving sending None = Left refl (none_sent None refl)
 mapped f receiving sending (Some st) = Kept st (f st) refl refl (receiving st) (sending st)
 
 -- a stream changes, but for its sides: of the sending one its bytes, end and reset stay
@@ -104,11 +142,14 @@ pub later_changed : (f : Stream → Stream) → ((st : Stream) → (f st).receiv
     (all : AllRecords) → Later (record_of id all) (record_of id (changed f j all))
 later_changed f receiving sending id j all = later_alike f receiving (λ st. same_alike st.sending (f st).sending (sending st)) id j all
 
-later_gone : (id j : ℕ) (all : AllRecords) → Ascends all → Later (record_of id all) (record_of id (without j all))
-later_gone id j all order = by (j == id) refl
+-- a stream leaves of which nothing is left to be sent
+later_gone : (id j : ℕ) (all : AllRecords) → Ascends all → SentAll (record_of j all) → Later (record_of id all) (record_of id (without j all))
+later_gone id j all order sent = by (j == id) refl
   where
     by : (b : Bool) → (j == id) ≡ b → Later (record_of id all) (record_of id (without j all))
-    by true is = Left (subst (λ (k : ℕ). record_of id (without k all) ≡ None) (sym (same_id j id is)) (gone_here id all order))
+    by true is =
+        Left (subst (λ (k : ℕ). record_of id (without k all) ≡ None) (sym (same_id j id is)) (gone_here id all order))
+        (subst (λ (k : ℕ). SentAll (record_of k all)) (same_id j id is) sent)
     by false is = later_same (record_of id all) (record_of id (without j all)) (gone_other j id all is)
 
 -- ---- marks, turns, and streams that leave
@@ -192,6 +233,16 @@ left_from_follows : (turn : Option (ℤ × ℕ)) (id : ℕ) (s : StreamsState) �
 left_from_follows None id s = follows_same s s refl
 left_from_follows (Some place) id s = of_records s (record s { records = changed (with_turn None) id s.records }) _ refl (turn_follows None id s)
 
+left_sent : (id : ℕ) (s : StreamsState) → SentAll (record_of id s.records) → SentAll (record_of id (left id s).records)
+unfolding left
+left_sent id s sent = by (turn_at (record_of id s.records))
+  where
+    by : (turn : Option (ℤ × ℕ)) → SentAll (record_of id (left_from turn id s).records)
+    by None = sent
+    by (Some place) =
+        later_sent (record_of id s.records) (record_of id (changed (with_turn None) id s.records))
+        (later_changed (with_turn None) (turn-receiving None) (turn-sending None) id id s.records) sent
+
 left_follows : (id : ℕ) (s : StreamsState) → Follows s (left id s)
 unfolding left
 left_follows id s = left_from_follows (turn_at (record_of id s.records)) id s
@@ -200,16 +251,16 @@ entered_follows : (place : ℤ × ℕ) (id : ℕ) (s : StreamsState) → Follows
 unfolding entered
 entered_follows place id s = of_records s (record s { records = changed (with_turn (Some place)) id s.records }) _ refl (turn_follows (Some place) id s)
 
-removed_follows : (id : ℕ) (s : StreamsState) → Follows s (removed id s)
+removed_follows : (id : ℕ) (s : StreamsState) → SentAll (record_of id s.records) → Follows s (removed id s)
 unfolding removed
-removed_follows id s = record { order = λ o. ascends_gone id s.records o; later = λ o j. later_gone j id s.records o }
+removed_follows id s sent = record { order = λ o. ascends_gone id s.records o; later = λ o j. later_gone j id s.records o sent }
 
-released_follows : (id : ℕ) (s : StreamsState) → Follows s (released id s)
+released_follows : (id : ℕ) (s : StreamsState) → SentAll (record_of id s.records) → Follows s (released id s)
 unfolding released forgotten
-released_follows id s =
+released_follows id s sent =
     follows_then s (left id (forgotten id s)) (removed id (left id (forgotten id s)))
     (follows_then s (forgotten id s) (left id (forgotten id s)) (follows_same s (forgotten id s) refl) (left_follows id (forgotten id s)))
-    (removed_follows id (left id (forgotten id s)))
+    (removed_follows id (left id (forgotten id s)) (left_sent id (forgotten id s) sent))
 
 freed-receiving : (st : Stream) → (with_freed st).receiving ≡ st.receiving
 unfolding with_freed
@@ -229,22 +280,29 @@ lingering_follows : (id : ℕ) (s : StreamsState) → Follows s (lingering id s)
 unfolding lingering
 lingering_follows id s = follows_then s _ (lingering id s) (of_records s (record s { records = changed with_freed id s.records }) _ refl (freed_follows id s)) (touched_follows id _)
 
+-- of one that has ended nothing is left
+ended_sent : (o : Option Stream) → has_ended o ≡ true → SentAll o
+unfolding is_over
+ended_sent None is = none_sent None refl
+ended_sent (Some st) is = λ other part same sends.
+    ap (λ (p : Option SendPart). sending_over p) (sym (ap (λ (y : Stream). y.sending) (some_is st other same) ∙ sends)) ∙ (and_parts (receiving_over st.receiving) (sending_over st.sending) is).1
+
 pub settled_follows : (id : ℕ) (s : StreamsState) → Follows s (settled id s)
 unfolding settled
-settled_follows id s = by (has_ended (record_of id s.records)) (stops_later (record_of id s.records))
+settled_follows id s = by (has_ended (record_of id s.records)) (stops_later (record_of id s.records)) refl
   where
-    by : (b c : Bool) → Follows s (cond b (cond c (lingering id s) (released id s)) (touched id s))
-    by true true = lingering_follows id s
-    by true false = released_follows id s
-    by false c = touched_follows id s
+    by : (b c : Bool) → has_ended (record_of id s.records) ≡ b → Follows s (cond b (cond c (lingering id s) (released id s)) (touched id s))
+    by true true is = lingering_follows id s
+    by true false is = released_follows id s (ended_sent (record_of id s.records) is)
+    by false c is = touched_follows id s
 
 pub left_over_follows : (id : ℕ) (s : StreamsState) → Follows s (left_over id s)
 unfolding left_over
-left_over_follows id s = by (has_ended (record_of id s.records))
+left_over_follows id s = by (has_ended (record_of id s.records)) refl
   where
-    by : (b : Bool) → Follows s (cond b (released id s) s)
-    by true = released_follows id s
-    by false = follows_same s s refl
+    by : (b : Bool) → has_ended (record_of id s.records) ≡ b → Follows s (cond b (released id s) s)
+    by true is = released_follows id s (ended_sent (record_of id s.records) is)
+    by false is = follows_same s s refl
 
 turn_filed_follows : (owes : Bool) (turn : Option (ℤ × ℕ)) (id : ℕ) (s : StreamsState) → Follows s (turn_filed owes turn id s)
 turn_filed_follows true None id s = entered_follows _ id s
@@ -361,7 +419,8 @@ stepped_then id x st mid now receiving sending h = record {
 -- a stream of which it is known where it comes from, and what the step made of it
 pub stepped_from : (id : ℕ) (x : Step) (s : StreamsState) (st mid : Stream) (o : Option Stream) → ComesFrom id s st → IsStepped id x st mid → o ≡ Some mid
     → Later o (record_of id (after_step x s).records) → SteppedAt id x s
-stepped_from id x s st mid o from made is (Left none) = Gone none
+stepped_from id x s st mid o from made is (Left none sent) =
+    Gone none (Done st from (λ p sends. done_before (option_map (sent_to id x) st.sending) mid.sending made.sending (sent_to id x p) (ap (λ (y : Option SendPart). option_map (sent_to id x) y) sends) (λ q then. sent mid q is then)))
 stepped_from id x s st mid o from made is (Kept old now was be receiving sending) =
     let same : mid ≡ old = some_is mid old (sym is ∙ was) in
     There st now from
@@ -369,9 +428,9 @@ stepped_from id x s st mid o from made is (Kept old now was be receiving sending
     (subst (λ (y : Stream). AlikeIf y.sending now.sending) (sym same) sending) made) be
 
 -- where there was none there is none
-pub stepped_none : (id : ℕ) (x : Step) (s : StreamsState) (o : Option Stream) → o ≡ None → Later o (record_of id (after_step x s).records) → SteppedAt id x s
-stepped_none id x s o is (Left none) = Gone none
-stepped_none id x s o is (Kept old now was be receiving sending) = none_some old o is was
+pub stepped_none : (id : ℕ) (x : Step) (s : StreamsState) (o : Option Stream) → record_of id s.records ≡ None → o ≡ None → Later o (record_of id (after_step x s).records) → SteppedAt id x s
+stepped_none id x s o never is (Left none sent) = Gone none (Never never)
+stepped_none id x s o never is (Kept old now was be receiving sending) = none_some old o is was
 
 -- the stream with an id changes, and more follows
 pub stepped_changed : (id j : ℕ) (x : Step) (s : StreamsState) (f : Stream → Stream) → ((j == id) ≡ true → (st : Stream) → IsStepped id x st (f st))
@@ -380,10 +439,10 @@ pub stepped_changed : (id j : ℕ) (x : Step) (s : StreamsState) (f : Stream →
 stepped_changed id j x s f makes rests later = by (j == id) refl (record_of id s.records) refl
   where
     by : (b : Bool) → (j == id) ≡ b → (o : Option Stream) → record_of id s.records ≡ o → SteppedAt id x s
-    by true is None none = stepped_none id x s _ (changed_here f id j s.records is ∙ ap (λ (o : Option Stream). option_map f o) none) later
+    by true is None none = stepped_none id x s _ none (changed_here f id j s.records is ∙ ap (λ (o : Option Stream). option_map f o) none) later
     by true is (Some st) some =
         stepped_from id x s st (f st) _ (Stood some) (makes is st) (changed_here f id j s.records is ∙ ap (λ (o : Option Stream). option_map f o) some) later
-    by false is None none = stepped_none id x s _ (changed_other f id j s.records is ∙ none) later
+    by false is None none = stepped_none id x s _ none (changed_other f id j s.records is ∙ none) later
     by false is (Some st) some = stepped_from id x s st st _ (Stood some) (rests is st) (changed_other f id j s.records is ∙ some) later
 
 -- no stream changes
@@ -392,5 +451,5 @@ pub stepped_still : (id : ℕ) (x : Step) (s : StreamsState) → ((st : Stream) 
 stepped_still id x s rests later = by (record_of id s.records) refl
   where
     by : (o : Option Stream) → record_of id s.records ≡ o → SteppedAt id x s
-    by None none = stepped_none id x s _ none later
+    by None none = stepped_none id x s _ none none later
     by (Some st) some = stepped_from id x s st st _ (Stood some) (rests st) some later

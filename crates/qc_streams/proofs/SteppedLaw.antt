@@ -18,6 +18,7 @@ use Rattle.qc_streams.specs.declared.parts.StreamPart.{StreamPart}
 use Rattle.qc_streams.specs.declared.state.StreamsState.{StreamsState}
 use Rattle.qc_streams.specs.declared.stream.Stream.{Stream}
 use Rattle.qc_streams.specs.Calls.{after_read, gives, if_known, reading_begun, resets, sends, write_refused, wrote}
+use Rattle.qc_streams.specs.Carried.{keeps_streams}
 use Rattle.qc_streams.specs.Control.{control_acked, control_lost, control_sealed, stop_again}
 use Rattle.qc_streams.specs.Counts.{own_raised}
 use Rattle.qc_streams.specs.Credit.{outgoing_raised, outgoing_written}
@@ -38,7 +39,7 @@ use Rattle.qc_streams.specs.Queues.{queued, touched}
 use Rattle.qc_streams.specs.Waits.{Step, LimitsKnown, EarlyRefused, Closed, Failed, Opened, Accepted, Wrote, Refused, Finished, WasReset, Began, Read, Stopped, ResetAsked, PrioritySet, SendWindowSet, ReceiveWindowSet, ConcurrentSet, Polled, StreamCame, ResetCame, StopCame, StreamLimitCame, StreamsLimitCame, LimitCame, MarksFiled, ControlSealed, ControlLost, ControlAcked, PartSealed, BytesLost, BytesAcked, after_step}
 use Rattle.qc_streams.specs.Writable.{credit_at, has_place_at, held_up, needs_place_at, passed, place_released, place_reserved, watched, writables_told}
 use Rattle.qc_streams.proofs.Keyed.{Ascends}
-use Rattle.qc_streams.proofs.StepAt.{Gone, SendsAlike, SteppedAt, Steps, came_to, sent_to}
+use Rattle.qc_streams.proofs.StepAt.{Anew, Gone, SendsAlike, SteppedAt, Steps, came_to, sent_to}
 use Rattle.qc_streams.proofs.SteppedAt.{Follows, Later, all_filed_follows, ascends_changed, follows_same, follows_then, later_at, later_changed, later_same, left_over_follows, noted_follows, settled_follows, told_follows, touched_follows, turned_follows}
 use Rattle.qc_streams.proofs.WaitSteps.{Holds}
 use Rattle.qc_streams.proofs.SteppedOpened.{met_on, met_order, opened_on}
@@ -330,7 +331,7 @@ module _ (id : ℕ) (s : StreamsState) (holds : Holds s) where
       (follows_then a b (writables_told None b) (follows_same a b refl) (told_follows None b)))) refl
 
 pub steps : Steps
-unfolding after_step came_to sent_to limits_set early_refused send_window_set receive_window_set max_concurrent_set stream_came reset_came stop_came stream_limit_came watched streams_limit_came limit_came told_if
+unfolding keeps_streams after_step came_to sent_to limits_set early_refused send_window_set receive_window_set max_concurrent_set stream_came reset_came stop_came stream_limit_came watched streams_limit_came limit_came told_if
 steps id (LimitsKnown p) s can holds =
     told_at id s holds (LimitsKnown p)
     (record s {
@@ -338,7 +339,7 @@ steps id (LimitsKnown p) s can holds =
       outgoing = outgoing_raised p.all_data s.outgoing;
       own = record { bi = own_raised p.bidi_streams s.own.bi; uni = own_raised p.uni_streams s.own.uni };
     }) (record { came = λ i r. refl; sent = λ i p. refl }) refl refl
-steps id EarlyRefused s can holds = Gone refl
+steps id EarlyRefused s can holds = Gone refl (Anew refl)
 steps id Closed s can holds = still_at id s holds Closed (record { came = λ i r. refl; sent = λ i p. refl }) refl
 steps id Failed s can holds = still_at id s holds Failed (record { came = λ i r. refl; sent = λ i p. refl }) refl
 steps id (Opened dir) s can holds = opened_on id dir s holds

@@ -14,7 +14,7 @@ use Rattle.qc_state.specs.declared.deeds.Layer.TheVariants.{Streams, Recovery, S
 use Rattle.qc_state.specs.declared.deeds.Quiet.{Quiet}
 use Rattle.qc_state.specs.declared.deeds.Quiet.TheVariants.{NothingOwed, Silent, Amplification, Congestion, Pacing, Killed}
 use Rattle.qc_state.specs.declared.deeds.Verdict.{Verdict}
-use Rattle.qc_state.specs.declared.deeds.Verdict.TheVariants.{Ignored, Failure, BadBits, Seen, ReadForClose, NumberOnly, AckOnly, Admitted}
+use Rattle.qc_state.specs.declared.deeds.Verdict.TheVariants.{Ignored, Failure, BadBits, BadUpdate, Seen, ReadForClose, NumberOnly, AckOnly, Admitted}
 use Rattle.qc_text.specs.TraceText.{number_or_dash, frames_text, space_name, option_space_name, verdict_name, layer_name, type_name, given_name, named_text, given_text, epoch_text, packet_text, sealed_text, piece_text, gave_text, quiet_name, did_text}
 use Rattle.qc_text.specs.OneText.{IsOptionInRange, IsDeedInRange, IsDeedPlain}
 use Rattle.qc_text.proofs.Tokens.{is_token, token_back, number_back, bytes_back, decimal_is_token, first_digit, decimal_injective_wide}
@@ -79,6 +79,7 @@ unfolding verdict_name
 verdict_is_token Ignored = refl
 verdict_is_token Failure = refl
 verdict_is_token BadBits = refl
+verdict_is_token BadUpdate = refl
 verdict_is_token Seen = refl
 verdict_is_token ReadForClose = refl
 verdict_is_token NumberOnly = refl
@@ -91,6 +92,7 @@ unfolding verdict_name
 verdict_injective Ignored Ignored e = refl
 verdict_injective Failure Failure e = refl
 verdict_injective BadBits BadBits e = refl
+verdict_injective BadUpdate BadUpdate e = refl
 verdict_injective Seen Seen e = refl
 verdict_injective ReadForClose ReadForClose e = refl
 verdict_injective NumberOnly NumberOnly e = refl

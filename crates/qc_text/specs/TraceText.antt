@@ -24,7 +24,7 @@ use Rattle.qc_state.specs.declared.deeds.Layer.TheVariants.{Streams, Recovery, S
 use Rattle.qc_state.specs.declared.deeds.Quiet.{Quiet}
 use Rattle.qc_state.specs.declared.deeds.Quiet.TheVariants.{NothingOwed, Silent, Amplification, Congestion, Pacing, Killed}
 use Rattle.qc_state.specs.declared.deeds.Verdict.{Verdict}
-use Rattle.qc_state.specs.declared.deeds.Verdict.TheVariants.{Ignored, Failure, BadBits, Seen, ReadForClose, NumberOnly, AckOnly, Admitted}
+use Rattle.qc_state.specs.declared.deeds.Verdict.TheVariants.{Ignored, Failure, BadBits, BadUpdate, Seen, ReadForClose, NumberOnly, AckOnly, Admitted}
 use Rattle.qc_state.specs.declared.events.EndpointEvent.{EndpointEvent}
 use Rattle.qc_state.specs.declared.events.EndpointEvent.TheVariants.{ResetToken, NeedIdentifiers, RetireConnectionId, Drained}
 use Rattle.qc_state.specs.declared.events.Event.{Event}
@@ -117,6 +117,7 @@ unfoldable pub verdict_name : Verdict → List ℕ
 verdict_name Ignored = codes "Ignored"
 verdict_name Failure = codes "Failure"
 verdict_name BadBits = codes "BadBits"
+verdict_name BadUpdate = codes "BadUpdate"
 verdict_name Seen = codes "Seen"
 verdict_name ReadForClose = codes "ReadForClose"
 verdict_name NumberOnly = codes "NumberOnly"

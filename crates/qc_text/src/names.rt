@@ -76,6 +76,7 @@ pub fn verdict_of(verdict: Verdict) -> &'static [u8]
         Verdict::Ignored => b"Ignored",
         Verdict::Failure => b"Failure",
         Verdict::BadBits => b"BadBits",
+        Verdict::BadUpdate => b"BadUpdate",
         Verdict::Seen => b"Seen",
         Verdict::ReadForClose => b"ReadForClose",
         Verdict::NumberOnly => b"NumberOnly",

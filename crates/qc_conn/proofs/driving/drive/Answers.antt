@@ -1,6 +1,7 @@
 use Rattle.std.specs.Prelude.{List, Result, Ok, Err, IfErr, IfOk, OnOk}
 use Rattle.qc_laws.proofs.AckHolds.{run_acks_hold, run_each_holds}
 use Rattle.qc_laws.proofs.AcksAccepted.{none_acks_known, ran_acks_known, run_acks_known}
+use Rattle.qc_laws.proofs.BytesKept.{run_keeps_written}
 use Rattle.qc_laws.proofs.CidRuns.{run_tells_issued}
 use Rattle.qc_laws.proofs.CidUses.{run_uses}
 use Rattle.qc_laws.proofs.CryptoKept.{run_keeps_bytes}
@@ -11,6 +12,7 @@ use Rattle.qc_laws.proofs.HarmlessBytes.{run_harmless}
 use Rattle.qc_laws.proofs.IdsFold.{run_folds_ids}
 use Rattle.qc_laws.proofs.IdsHold.{run_ids}
 use Rattle.qc_laws.proofs.InitialLeft.{run_leaves}
+use Rattle.qc_laws.proofs.KeysFold.{run_folds_keys, run_keeps_epochs, run_last}
 use Rattle.qc_laws.proofs.KeysHold.{run_keys_hold}
 use Rattle.qc_laws.proofs.LengthsHold.{run_keeps_length}
 use Rattle.qc_laws.proofs.MarksTold.{none_each_told, ran_each_told, run_each_told}
@@ -165,6 +167,15 @@ returns-clause-plain_end g c = λ plain. of_end _ _ _ _ c.drive_all.result _ c.d
 pub returns-clause-recovers : goal.returns-clause-recovers
 returns-clause-recovers g c = λ ends. of_trace _ _ _ _ c.drive_all.result _ c.drive_all.ensures.run (λ trace run. run_recovers _ 0 _ _ trace _ run ends)
 
+pub returns-clause-updates : goal.returns-clause-updates
+returns-clause-updates g c = λ last. of_trace _ _ _ _ c.drive_all.result _ c.drive_all.ensures.run (λ trace run. run_folds_keys _ 0 _ _ trace _ run last)
+
+pub returns-clause-epochs : goal.returns-clause-epochs
+returns-clause-epochs g c = λ last. of_trace _ _ _ _ c.drive_all.result _ c.drive_all.ensures.run (λ trace run. run_keeps_epochs _ 0 _ _ trace _ run last)
+
+pub returns-clause-last : goal.returns-clause-last
+returns-clause-last g c = λ last. of_end _ _ _ _ c.drive_all.result _ c.drive_all.ensures.run (λ trace run. run_last _ 0 _ _ trace _ run last)
+
 pub returns-clause-crypto : goal.returns-clause-crypto
 returns-clause-crypto g c = λ ends. of_trace _ _ _ _ c.drive_all.result _ c.drive_all.ensures.run (λ trace run. run_keeps_bytes _ 0 _ _ trace _ run ends)
 
@@ -185,6 +196,9 @@ returns-clause-written g c = λ new. of_trace _ _ _ _ c.drive_all.result _ c.dri
 
 pub returns-clause-credit : goal.returns-clause-credit
 returns-clause-credit g c = of_end _ _ _ _ c.drive_all.result _ c.drive_all.ensures.run (λ trace run. credit_kept _ _ _ _ trace run)
+
+pub returns-clause-bytes : goal.returns-clause-bytes
+returns-clause-bytes g c = λ ends new. of_trace _ _ _ _ c.drive_all.result _ c.drive_all.ensures.run (λ trace run. run_keeps_written _ 0 _ _ trace _ run ends new)
 
 pub returns-clause-posts : goal.returns-clause-posts
 returns-clause-posts g c = of_trace _ _ _ _ c.drive_all.result _ c.drive_all.ensures.run (λ trace run. run_posts _ 0 _ _ trace _ run)

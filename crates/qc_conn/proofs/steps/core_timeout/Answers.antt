@@ -17,6 +17,10 @@ pub returns-clause-close : goal.returns-clause-close
 returns-clause-close g c =
     on_ok_weaker c.handle_timeout.result (λ later alive. later (still_alive g.U.Random.Rng.stream c.args.core.now c.clock.new.self c.args.now c.clock.ensures alive)) c.handle_timeout.ensures.close
 
+pub returns-clause-keys : goal.returns-clause-keys
+returns-clause-keys g c =
+    on_ok_weaker c.handle_timeout.result (λ later alive. later (still_alive g.U.Random.Rng.stream c.args.core.now c.clock.new.self c.args.now c.clock.ensures alive)) c.handle_timeout.ensures.keys
+
 pub returns-clause-paced : goal.returns-clause-paced
 returns-clause-paced g c =
     on_ok_weaker c.handle_timeout.result (λ later alive. later (still_alive g.U.Random.Rng.stream c.args.core.now c.clock.new.self c.args.now c.clock.ensures alive)) c.handle_timeout.ensures.paced

@@ -1,4 +1,4 @@
-use Rattle.qc_conn.proofs.NewEnds.{first_ends, first_told}
+use Rattle.qc_conn.proofs.NewEnds.{first_ends, first_last, first_told}
 use Rattle.qc_conn.proofs.Marks.{new_mark}
 use Rattle.qc_conn.proofs.NewLaws.{first_acks, first_kept, first_new, first_streams, first_timer, first_unposted, first_used}
 use Rattle.qc_conn.proofs.NewIds.{first_new_ids}
@@ -17,6 +17,10 @@ returns-clause-told g c = first_told g.U.Random.Rng.stream _ _ _ _ c.args.setup.
 -- its life is open
 pub returns-clause-ends : goal.returns-clause-ends
 returns-clause-ends g c = first_ends g.U.Random.Rng.stream _ _ _ _ c.args.setup.remote c.args.setup.first_cid _ _ _ c.args.now c.in_ok-core.core c.in_ok-core.ensures.made
+
+-- it has no 1-RTT keys
+pub returns-clause-last : goal.returns-clause-last
+returns-clause-last g c = first_last g.U.Random.Rng.stream _ _ _ _ c.args.setup.remote c.args.setup.first_cid _ _ _ c.args.now c.in_ok-core.core c.in_ok-core.ensures.made
 
 -- what its session wrote waits
 pub returns-clause-crypto : goal.returns-clause-crypto

@@ -1,4 +1,4 @@
-use Rattle.qc_conn.proofs.NewEnds.{server_ends, server_told}
+use Rattle.qc_conn.proofs.NewEnds.{server_ends, server_last, server_told}
 use Rattle.qc_conn.proofs.Marks.{new_mark}
 use Rattle.qc_conn.proofs.NewLaws.{server_acks, server_kept, server_new, server_streams, server_timer, server_unposted, server_used}
 use Rattle.qc_conn.proofs.NewIds.{server_new_ids}
@@ -17,6 +17,10 @@ returns-clause-told g c = server_told g.U.Random.Rng.stream _ _ _ _ c.args.setup
 -- its life is open
 pub returns-clause-ends : goal.returns-clause-ends
 returns-clause-ends g c = server_ends g.U.Random.Rng.stream _ _ _ _ c.args.setup.remote c.args.setup.remote_cid c.args.setup.validated _ _ c.args.now c.in_ok-core.core c.in_ok-core.ensures
+
+-- it has no 1-RTT keys
+pub returns-clause-last : goal.returns-clause-last
+returns-clause-last g c = server_last g.U.Random.Rng.stream _ _ _ _ c.args.setup.remote c.args.setup.remote_cid c.args.setup.validated _ _ c.args.now c.in_ok-core.core c.in_ok-core.ensures
 
 -- what its session wrote waits
 pub returns-clause-crypto : goal.returns-clause-crypto

@@ -18,5 +18,5 @@ pub returns-clause-leads : goal.returns-clause-leads
 returns-clause-leads g c =
     let settled = settled_held (meaning g.U.Session.Session g.U.Session.HeaderKey.HeaderMask g.U.Session.PacketKey.PacketKey g.U.Control.Controller.Controller) g.U.Random.Rng.stream c.args.self.now _ c.args.now c.args.space (ack_map (λ bytes. bytes.now) c.args.ack.now) _ _ _ _ _ _
     c.self.view_is c.is_blocked-blocked.ensures c.shows_validated.ensures c.around-around.ensures c.next-next.ensures c.began-began.ensures c.in_ok-settled.ensures.after in
-    settled_parts (meaning g.U.Session.Session g.U.Session.HeaderKey.HeaderMask g.U.Session.PacketKey.PacketKey g.U.Control.Controller.Controller) g.U.Random.Rng.stream c.settle_in.result c.args.self.now _ c.args.now c.args.space (ack_map (λ bytes. bytes.now) c.args.ack.now) _ _ _ _ _ _ _ _ _
-    c.self.view_is settled refl c.in_ok-settled.ensures.lower c.in_ok-settle.ensures c.in_ok-settle-2.ensures c.current_mtu-before.ensures c.shrink.ensures c.settle_in.ensures.numbers c.settle_in.ensures.waiting
+    settled_parts (meaning g.U.Session.Session g.U.Session.HeaderKey.HeaderMask g.U.Session.PacketKey.PacketKey g.U.Control.Controller.Controller) g.U.Random.Rng.stream c.settle_in.result c.args.self.now _ c.args.now c.args.space (ack_map (λ bytes. bytes.now) c.args.ack.now) _ _ _ _ _ _ _ _ _ _
+    c.self.view_is settled refl c.in_ok-settled.ensures.lower c.in_ok-settle.ensures c.in_ok-settle-2.ensures c.current_mtu-before.ensures c.shrink.ensures c.acked.ensures c.settle_in.ensures.numbers c.settle_in.ensures.waiting

@@ -2,7 +2,7 @@
 use Rattle.std.proofs.Common.{◌≡◌, false}
 use Rattle.qc_state.specs.Timers.{has_come}
 use Rattle.qc_state.specs.Types.{meaning}
-use Rattle.qc_state.proofs.Expired.{cids_later, idle_later, close_later, paced_later, held_later}
+use Rattle.qc_state.proofs.Expired.{cids_later, idle_later, close_later, keys_later, paced_later, held_later}
 use Rattle.qc_core.proofs.Expiring.{behind_timeout}
 use Rattle.qc_core.proofs.state.Core.handle_timeout.Goals as goal
 
@@ -15,6 +15,11 @@ pub returns-clause-close : goal.returns-clause-close
 returns-clause-close g c =
     let m = (meaning g.U.Session.Session g.U.Session.HeaderKey.HeaderMask g.U.Session.PacketKey.PacketKey g.U.Control.Controller.Controller) in
     behind_timeout m c.args.now c.expire.result (λ x. has_come x.state.timers.close c.args.now ≡ false) _ _ c.expire.ensures (λ alive. close_later m c.args.now _ alive)
+
+pub returns-clause-keys : goal.returns-clause-keys
+returns-clause-keys g c =
+    let m = (meaning g.U.Session.Session g.U.Session.HeaderKey.HeaderMask g.U.Session.PacketKey.PacketKey g.U.Control.Controller.Controller) in
+    behind_timeout m c.args.now c.expire.result (λ x. has_come x.state.timers.key_discard c.args.now ≡ false) _ _ c.expire.ensures (λ alive. keys_later m c.args.now _ alive)
 
 pub returns-clause-paced : goal.returns-clause-paced
 returns-clause-paced g c =
