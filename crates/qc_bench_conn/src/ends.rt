@@ -165,6 +165,7 @@ fn amount_of(answer: &Answer) -> u64 {
         Answer::Done
         | Answer::Dropped
         | Answer::Nothing
+        | Answer::Flag(_)
         | Answer::Ended
         | Answer::Datagram(_)
         | Answer::Error(_)

@@ -1,5 +1,6 @@
 mod Clocks
 mod Counting
+mod ForcedUpdates
 pub mod Refusals
 pub mod RunsPlain
 pub mod Reports

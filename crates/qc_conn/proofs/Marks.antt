@@ -29,7 +29,7 @@ use Rattle.qc_state.specs.Forms.{is_early, number_space}
 use Rattle.qc_state.specs.Keys.{epoch_in}
 use Rattle.qc_state.specs.Life.{is_handshake, is_open, is_over, rank_of}
 use Rattle.qc_state.specs.Lower.{bytes_came, event_told, events_told, flight_dropped, frame_handed, ids_stepped, datagrams_stepped, frames_sealed, limits_learned, packet_flown, packets_settled, session_read, session_wrote, streams_closed, streams_stepped, timer_fired}
-use Rattle.qc_state.specs.Moves.{Ack, Ask, Begin, Call, Expect, Fire, Hand, Issue, Learn, MayMove, Move, PeerCloses, PeerClosesToo, Raise, ReportConnected, ReportDrained, ReportHeard, ReportLost, ReportNotice, ReportReady, ReportStream, ReportStreams, Seal, Shut, Take, is_call, keys_move, life_move, lower_move, move_to, numbers_move, state_move}
+use Rattle.qc_state.specs.Moves.{Ack, Ask, Begin, Call, Expect, Fire, Hand, Issue, Learn, MayMove, Move, PeerCloses, PeerClosesToo, Raise, ReportConnected, ReportDrained, ReportHeard, ReportLost, ReportNotice, ReportReady, ReportStream, ReportStreams, Seal, Shut, Take, is_call, keys_move, life_move, lower_move, move_to, numbers_move, state_move, Update}
 use Rattle.qc_state.specs.Numbers.{next_number}
 use Rattle.qc_state.specs.Offers.{begun_steps}
 use Rattle.qc_state.specs.Paths.{is_blocked}
@@ -41,11 +41,13 @@ use Rattle.qc_state.specs.StreamFrames.{acked_steps, fired_steps, lost_steps, se
 use Rattle.qc_state.specs.Streams.{asked_for, events_of, limits_of, steps_of_frame}
 use Rattle.qc_state.specs.Timeouts.{timeout_after}
 use Rattle.qc_state.specs.Types.{Types, Meaning}
+use Rattle.qc_state.specs.Updating.{updated_after}
 use Rattle.qc_state.specs.View.{View, At, at}
 use Rattle.qc_state.proofs.Expired.{holds_timeout}
 use Rattle.qc_state.proofs.Probed.{begun_streams}
 use Rattle.qc_state.proofs.Telling.{open_rank}
 use Rattle.qc_state.proofs.Transmitted.{IsSealable, holds_transmit}
+use Rattle.qc_state.proofs.Updates.{holds_updated}
 use Rattle.qc_streams.specs.declared.events.StreamEvent.{StreamEvent}
 use Rattle.qc_streams.specs.declared.state.StreamsState.{StreamsState}
 use Rattle.qc_streams.specs.Owed.{next_event}
@@ -257,6 +259,10 @@ module _ {t : Types} where
   pub asked_mark : (id : SpaceId) (s s' : View t) → s' ≡ state_move (Ask id) s → s'.lower.streams.failed ≡ s.lower.streams.failed
   unfolding MayMove
   asked_mark id s s' is = ap (λ (v : View t). v.lower.streams.failed) is ∙ move_mark (Ask id) s tt
+
+  -- the keys are updated, where they may be
+  pub updated_mark : (m : Meaning t) (s s' : View t) → s' ≡ (updated_after m (at s [])).state → s'.lower.streams.failed ≡ s.lower.streams.failed
+  updated_mark m s s' is = ap (λ (v : View t). v.lower.streams.failed) is ∙ holds_updated m Marked here (λ b may. moved (Update _ _) b may) (at s [])
 
   -- a connection that was just made hasn't failed
   pub new_mark : (s : View t) → HasNewStreams s → s.lower.streams.failed ≡ false

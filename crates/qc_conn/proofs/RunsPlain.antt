@@ -69,7 +69,7 @@ use Rattle.qc_state.specs.declared.trace.Answer.TheVariants as answer
 use Rattle.qc_state.specs.declared.waiting.SpaceWaiting.{SpaceWaiting}
 use Rattle.qc_state.specs.declared.waiting.Waiting.{Waiting}
 use Rattle.qc_state.specs.Life.{is_closed, is_open, data_ready, datagram_heard, drained_event, identifiers_wanted, life_closed, life_drained, life_established, life_raised, reason_given, retirement_told, token_learned, token_told, notices_reported, drained_reported, lost_reported, connected_reported, ready_reported}
-use Rattle.qc_state.specs.Moves.{Probe, Move, Take, Seal, Forget, Raise, Say, Give, Enter, Fail, Accept, Fix, Hear, Ack, Fire, Arm, Pace, Release, Begin, Skip, Come, Read, Write, Ready, Learn, Establish, Tell, PeerClosesToo, PeerCloses, Owe, Shut, Hand, Insert, Switch, Retire, Issue, Outlive, Call, Post, IsTold, MayMove, told, state_move, move_to, deeds_move, life_move, paths_move, waiting_move, keys_move, Expect, Confirm, Token, Want, Spend, Hold, Finish, Ask, Discard, Unseal}
+use Rattle.qc_state.specs.Moves.{Probe, Move, Take, Seal, Forget, Raise, Say, Give, Enter, Fail, Accept, Fix, Hear, Ack, Fire, Arm, Pace, Release, Begin, Skip, Come, Read, Write, Ready, Learn, Establish, Tell, PeerClosesToo, PeerCloses, Owe, Shut, Hand, Insert, Switch, Retire, Issue, Outlive, Call, Post, IsTold, MayMove, told, state_move, move_to, deeds_move, life_move, paths_move, waiting_move, keys_move, Expect, Confirm, Token, Want, Spend, Hold, Finish, Ask, Discard, Unseal, Update}
 use Rattle.qc_state.specs.Datagrams.{sent_answer, taken_answer, tells_datagram}
 use Rattle.qc_state.specs.Forms.{is_early, number_space}
 use Rattle.qc_state.specs.Ids.{active_limit}
@@ -91,6 +91,7 @@ use Rattle.qc_state.specs.Allowed.{Waits, WaitAll}
 use Rattle.qc_state.specs.Offers.{packet_begun}
 use Rattle.qc_state.specs.Waiting.{again, all_again, lost_in, confirmed, all_confirmed, acked_in, packets_lost, packets_acked, probes_added, probe_spent, frames_again, fired_in, ping_asked, waiting_without, close_begun, packet_told, came_in, packet_came, ack_released, bundle_next, crypto_more, crypto_written, nothing_left, space_left, without, without_all, done_asked}
 use Rattle.qc_state.proofs.Probed.{begun_holds, taken_space}
+use Rattle.qc_state.proofs.Updates.{holds_updated}
 use Rattle.qc_state.proofs.Quieted.{probed_current}
 use Rattle.qc_state.proofs.Expired.{IsTimed, holds_timeout}
 use Rattle.qc_state.proofs.IdsTaken.{retired_fits}
@@ -582,6 +583,7 @@ module _ {t : Types} where
   keeps_sending (Ask id) r a h = record { deeds = λ b p. p; crypto = set_below a.state.waiting id _ (λ p. p); path = refl; notices = λ p k. k }
   keeps_sending (Begin id opens) r a h = record { deeds = λ b p. p; crypto = packet_below a.state id opens; path = refl; notices = λ p k. k }
   keeps_sending Skip r a h = record { deeds = λ b p. p; crypto = λ p. p; path = refl; notices = λ p k. k }
+  keeps_sending (Update fresh session) r a h = record { deeds = λ b p. p; crypto = λ p. p; path = refl; notices = λ p k. k }
   keeps_sending (Arm time) r a h = record { deeds = λ b p. p; crypto = λ p. p; path = refl; notices = λ p k. k }
   keeps_sending (Forget id) r a h = record { deeds = λ b p. p; crypto = set_below a.state.waiting id _ (nothing_below (space_of a.state.waiting.spaces id)); path = refl; notices = λ p k. k }
   keeps_sending (Shut time close) r a h = record { deeds = λ b. one_more a.did _ tt; crypto = λ p. p; path = refl; notices = λ p k. k }
@@ -653,6 +655,7 @@ module _ {t : Types} where
   keeps_input m (input.RecvDatagram time) choice a may = keeps_post datagrams.Taken a
   keeps_input m (input.Close time code reason) choice a may = keeps_closed time _ a (is_open a.state.life.state)
   keeps_input m (input.Ping time) choice a may = record { deeds = λ b p. p; crypto = set_below a.state.waiting a.state.keys.highest _ (λ p. p); path = refl; notices = λ p k. k }
+  keeps_input m (input.Update time) choice a may = holds_updated m Keeps keeps_here (λ b may_be. record { deeds = λ c p. p; crypto = λ p. p; path = refl; notices = λ p k. k }) a
   keeps_input m (input.MaxStreams time dir count) choice a may = keeps_calls (calls_of (input.MaxStreams time dir count) choice.read a.state.lower.streams) a
   keeps_input m (input.SendWindow time size) choice a may = keeps_calls (calls_of (input.SendWindow time size) choice.read a.state.lower.streams) a
   keeps_input m (input.ReceiveWindow time size) choice a may = keeps_calls (calls_of (input.ReceiveWindow time size) choice.read a.state.lower.streams) a
@@ -665,7 +668,7 @@ module _ {t : Types} where
   out_plain Ending.Held s b bytes h = h
   out_plain (Hushed quiet) s b bytes h = tt
   out_plain (Probed quiet size) s b bytes h = h
-  out_plain (Died why) s b bytes h = tt
+  out_plain (Died f why) s b bytes h = tt
 
   answer_plain : (m : Meaning t) (i : Input) (choice : Choice) (a : At t) → IsPlainAddress a.state.paths.current.remote → IsAnswerPlain (answer_of m i choice a)
   unfolding answer_of transmit_of
@@ -683,6 +686,7 @@ module _ {t : Types} where
   answer_plain m (input.RecvDatagram time) choice a h = taken_plain a.state.lower.datagrams.incoming
   answer_plain m (input.Close time code reason) choice a h = tt
   answer_plain m (input.Ping time) choice a h = tt
+  answer_plain m (input.Update time) choice a h = tt
   answer_plain m (input.MaxStreams time dir count) choice a h = tt
   answer_plain m (input.SendWindow time size) choice a h = tt
   answer_plain m (input.ReceiveWindow time size) choice a h = tt

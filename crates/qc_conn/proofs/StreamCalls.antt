@@ -3,7 +3,7 @@ use Rattle.std.proofs.Common.{◌≡◌, ℕ, List, [], refl, ap, ◌∙◌, tru
 use Rattle.qc_core.specs.StreamCalls.{CallsStreams}
 use Rattle.qc_state.specs.declared.deeds.Did.{Did}
 use Rattle.qc_state.specs.declared.input.Input.{Input}
-use Rattle.qc_state.specs.declared.input.Input.TheVariants.{Datagram, Timeout, Transmit, Open, Accept, Write, Finish, ResetSend, StopRecv, Read, Close, Ping, SendDatagram, RecvDatagram, MaxStreams, SendWindow, ReceiveWindow, Identifiers}
+use Rattle.qc_state.specs.declared.input.Input.TheVariants.{Datagram, Timeout, Transmit, Open, Accept, Write, Finish, ResetSend, StopRecv, Read, Close, Ping, Update, SendDatagram, RecvDatagram, MaxStreams, SendWindow, ReceiveWindow, Identifiers}
 use Rattle.qc_state.specs.declared.trace.Answer.{Answer}
 use Rattle.qc_state.specs.Moves.{Clock, state_move}
 use Rattle.qc_state.specs.Run.{Calls, IsAllowed, answer_of, input_after, time_of}
@@ -31,6 +31,7 @@ module _ {t : Types} where
   for_streams m (Transmit time max) is = cc
   for_streams m (Close time code reason) is = cc
   for_streams m (Ping time) is = cc
+  for_streams m (Update time) is = cc
   for_streams m (SendDatagram time body) is = cc
   for_streams m (RecvDatagram time) is = cc
   for_streams m (Identifiers time ids) is = cc

@@ -9,7 +9,7 @@ use Rattle.qc_conn.specs.declared.driving.BadWhy.TheVariants.{ZeroDatagrams, Dir
 use Rattle.qc_conn.specs.declared.driving.DriveKind.{DriveKind}
 use Rattle.qc_conn.specs.declared.driving.DriveKind.TheVariants.{OutOfMemory, TimeBack, BadCall, Failed}
 use Rattle.qc_state.specs.declared.input.Input.{Input}
-use Rattle.qc_state.specs.declared.input.Input.TheVariants.{Datagram, Timeout, Transmit, Open, Accept, Write, Finish, ResetSend, StopRecv, Read, SendDatagram, RecvDatagram, Close, Ping, MaxStreams, SendWindow, ReceiveWindow, Identifiers}
+use Rattle.qc_state.specs.declared.input.Input.TheVariants.{Datagram, Timeout, Transmit, Open, Accept, Write, Finish, ResetSend, StopRecv, Read, SendDatagram, RecvDatagram, Close, Ping, Update, MaxStreams, SendWindow, ReceiveWindow, Identifiers}
 use Rattle.qc_state.specs.declared.trace.Step.{Step}
 use Rattle.qc_state.specs.Run.{time_of, IsStep}
 use Rattle.qc_state.specs.Streams.{sends_on, receives_on}
@@ -46,6 +46,7 @@ module _ {t : Types} where
   bad_call s (RecvDatagram time) = None
   bad_call s (Close time code reason) = None
   bad_call s (Ping time) = None
+  bad_call s (Update time) = None
   bad_call s (MaxStreams time dir count) = None
   bad_call s (SendWindow time size) = None
   bad_call s (ReceiveWindow time size) = None

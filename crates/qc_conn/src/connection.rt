@@ -1,6 +1,10 @@
 //! A connection and its calls.
 
-ghost use Rattle.std.specs.Prelude.{◌≡◌, ◌<◌, ◌≤◌, [], true, false, length, None, Err, OnOk, OnErr, IfOk, IfSome, max, unwrap_or, string_bytes};
+ghost use Rattle.std.specs.Prelude.{◌≡◌, ◌<◌, ◌≤◌, [], true, false, length, None, Err, OnOk, OnErr, IfOk, IfSome, IsSome, max, unwrap_or, string_bytes};
+ghost use Rattle.qc_base.specs.Time.{plus};
+ghost use Rattle.qc_state.specs.declared.form.Form.TheVariants.{OneRtt};
+ghost use Rattle.qc_state.specs.Keys.{epoch_in};
+ghost use Rattle.qc_state.specs.Updating.{fresh_now, may_update_now, updated_after};
 ghost use Rattle.qc_text.specs.OneText.{IsPlainAddress, IsPlainStart};
 ghost use Rattle.qc_conn.specs.Opened.{OnDone, lost_of};
 ghost use Rattle.qc_conn.specs.Seen.{Sends, SendsSealed, counted, with_streams};
@@ -31,7 +35,7 @@ ghost use Rattle.qc_laws.specs.ReadLaws.{HasNewStreams};
 ghost use Rattle.qc_laws.specs.StreamLaws.{IsUnread};
 ghost use Rattle.qc_laws.specs.TimerLaws.{TimerHolds};
 ghost use Rattle.qc_state.specs.Timers.{has_come, next_timeout};
-ghost use Rattle.qc_state.specs.View.{ideal};
+ghost use Rattle.qc_state.specs.View.{at, ideal};
 ghost use Rattle.qc_streams.specs.Counts.{by_dir};
 ghost use Rattle.qc_streams.specs.Streams.{failed};
 ghost use Rattle.qc_streams.specs.Settings.{max_concurrent_set, receive_window_set, send_window_set};
@@ -404,6 +408,27 @@ impl<U: Suite> Connection<U> {
         ensures mark { self.new.failed ≡ self.old.failed }
     {
         self.core.ping();
+    }
+
+    /// This end updates its 1-RTT keys, where it may: the connection is established, no keys of the epoch before are kept, and a packet of
+    /// this epoch was acknowledged (RFC 9001, 6.1 and 6.5). Answers whether it may; else nothing changes. It takes no memory.
+    pub fn force_key_update(&mut self) -> bool
+        ensures may { result ≡ may_update_now (ideal U.Random.stream self.old.core) }
+        ensures leads { (ideal U.Random.stream self.new.core) ≡ (updated_after ⟦<U as Means>⟧.meaning (at (ideal U.Random.stream self.old.core) [])).state }
+        ensures mark { self.new.failed ≡ self.old.failed }
+        ensures kept { result ≡ false → self.new ≡ self.old }
+        ensures rises { result ≡ true → IsSome (fresh_now ⟦<U as Means>⟧.meaning (ideal U.Random.stream self.old.core)) → epoch_in self.new.core.keys OneRtt ≡ plus (epoch_in self.old.core.keys OneRtt) 1 }
+    {
+        self.core.update()
+    }
+
+    /// The same as `force_key_update`.
+    pub fn initiate_key_update(&mut self) -> bool
+        ensures may { result ≡ may_update_now (ideal U.Random.stream self.old.core) }
+        ensures leads { (ideal U.Random.stream self.new.core) ≡ (updated_after ⟦<U as Means>⟧.meaning (at (ideal U.Random.stream self.old.core) [])).state }
+        ensures mark { self.new.failed ≡ self.old.failed }
+    {
+        self.force_key_update()
     }
 
     /// The next event for the application. None exactly where none waits.

@@ -192,6 +192,7 @@ fn bad_call<U: Suite>(connection: &Connection<U>, input: &Input) -> Option<BadWh
         | Input::Accept { .. }
         | Input::Close { .. }
         | Input::Ping { .. }
+        | Input::Update { .. }
         | Input::SendDatagram { .. }
         | Input::RecvDatagram { .. }
         | Input::MaxStreams { .. }
@@ -330,7 +331,7 @@ pub fn drive<U: Suite, G: TokenStore>(
     ensures settles { Ends (ideal U.Random.stream connection.old.core) → IfOk result (λ trace. EachSettlesOnce (deeds_of trace) (ideal U.Random.stream connection.old.core) (ideal U.Random.stream connection.new.core)) }
 
     // The 1-RTT keys are what their own steps leave, each of which may be made: those of the packets that were sealed, of those that were
-    // opened, and of the ACKs that came, in order, none left out and none made up. So their epoch never falls, and packets are sealed under
+    // opened, of the ACKs that came, and of updates that this end may make, in order, none left out and none made up. So their epoch never falls, and packets are sealed under
     // keys of epochs that never do.
     ensures updates { AreLast (ideal U.Random.stream connection.old.core) → IfOk result (λ trace. FoldsKeys trace (ideal U.Random.stream connection.old.core) (ideal U.Random.stream connection.new.core)) }
     ensures epochs { AreLast (ideal U.Random.stream connection.old.core) → IfOk result (λ trace. KeepsEpochs trace (ideal U.Random.stream connection.old.core) (ideal U.Random.stream connection.new.core)) }

@@ -248,6 +248,16 @@ fn ping_call<U: Suite>(core: &mut Core<U>, now: Instant, did: &Dids) -> Answer
     Answer::Done
 }
 
+/// An update of the keys is asked for at `now`.
+#[tactic(auto, using(qc_laws::proofs::Steps::calls_update))]
+fn update_call<U: Suite>(core: &mut Core<U>, now: Instant, did: &Dids) -> Answer
+    requires { did.now ≡ [] }
+    ensures { Calls ⟦<U as Means>⟧.meaning (ideal U.Random.stream core.old) (Input.Update now) (held U.Random.stream core.new did.now) result }
+{
+    core.clock(now);
+    Answer::Flag(core.update())
+}
+
 /// A datagram came from `remote` at `now`.
 fn datagram_call<U: Suite>(
     core: &mut Core<U>,
@@ -367,6 +377,7 @@ fn call<U: Suite>(
         ),
         Input::Close { now, code, reason } => close_call(core, alloc, *now, *code, reason, did),
         Input::Ping { now } => Ok(ping_call(core, *now, did)),
+        Input::Update { now } => Ok(update_call(core, *now, did)),
         Input::SendDatagram { now, body } => send_call(core, alloc, *now, body, did),
         Input::RecvDatagram { now } => recv_call(core, alloc, *now, did),
         Input::Open { .. }
@@ -461,6 +472,7 @@ fn word(input: &Input) -> Word
         Input::RecvDatagram { .. } => Word::RecvDatagram,
         Input::Close { .. } => Word::Close,
         Input::Ping { .. } => Word::Ping,
+        Input::Update { .. } => Word::Update,
         Input::MaxStreams { .. } => Word::MaxStreams,
         Input::SendWindow { .. } => Word::SendWindow,
         Input::ReceiveWindow { .. } => Word::ReceiveWindow,
@@ -487,6 +499,7 @@ pub(crate) fn time(input: &Input) -> Instant
         Input::RecvDatagram { now } => *now,
         Input::Close { now, .. } => *now,
         Input::Ping { now } => *now,
+        Input::Update { now } => *now,
         Input::MaxStreams { now, .. } => *now,
         Input::SendWindow { now, .. } => *now,
         Input::ReceiveWindow { now, .. } => *now,

@@ -81,7 +81,7 @@ fn told_of(answer: &Answer) -> Told {
         Answer::Read { offset, body } => Told::Read(*offset, number_of(body.as_slice())),
         Answer::Datagram(body) => Told::Datagram(number_of(body.as_slice())),
         Answer::Error(why) => Told::Refused(*why),
-        Answer::Dropped | Answer::Ended | Answer::Out { .. } => Told::Other,
+        Answer::Dropped | Answer::Flag(_) | Answer::Ended | Answer::Out { .. } => Told::Other,
     }
 }
 

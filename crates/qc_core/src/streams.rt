@@ -163,6 +163,7 @@ fn call(streams: &mut StreamsState, alloc: Global, input: &Input) -> Result<Answ
         | Input::RecvDatagram { .. }
         | Input::Close { .. }
         | Input::Ping { .. }
+        | Input::Update { .. }
         | Input::Identifiers { .. } => Ok(Answer::Done),
     }
 }

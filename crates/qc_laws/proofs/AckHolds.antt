@@ -30,7 +30,7 @@ use Rattle.qc_state.specs.Acks.{is_ack}
 use Rattle.qc_state.specs.Forms.{is_early, number_space}
 use Rattle.qc_state.specs.Keys.{epoch_in, ring_of, sets_floor}
 use Rattle.qc_state.specs.Life.{connected_reported, drained_reported, is_drained, is_open, is_over, life_closed, life_drained, life_raised, lost_reported, notices_reported, ready_reported, all_heard_reported}
-use Rattle.qc_state.specs.Moves.{Accept, Ack, Arm, Ask, Establish, Fire, Forget, Give, MayMove, Move, Pace, PeerCloses, Raise, Release, Seal, Shut, Take, Tell, Write, arrival_of, armed_after, armed_with, deeds_move, keys_move, life_move, move_to, state_move, timers_move, waiting_move, Call, Post, Issue, Outlive, Want, Unseal, Discard}
+use Rattle.qc_state.specs.Moves.{Accept, Ack, Arm, Ask, Establish, Fire, Forget, Give, MayMove, Move, Pace, PeerCloses, Raise, Release, Seal, Shut, Take, Tell, Write, arrival_of, armed_after, armed_with, deeds_move, keys_move, life_move, move_to, state_move, timers_move, waiting_move, Call, Post, Issue, Outlive, Want, Unseal, Discard, Update}
 use Rattle.qc_state.specs.Numbers.{came_in, next_number}
 use Rattle.qc_state.specs.Paths.{is_blocked}
 use Rattle.qc_state.specs.Receiving.{datagram_after}
@@ -45,6 +45,8 @@ use Rattle.qc_state.specs.Types.{Types, Meaning}
 use Rattle.qc_state.specs.View.{View, At}
 use Rattle.qc_state.specs.Waiting.{ack_released, holds_back, packet_came}
 use Rattle.qc_state.specs.Waiting as waiting
+use Rattle.qc_state.specs.Updating.{fresh_now}
+use Rattle.qc_state.proofs.Updates.{holds_updated}
 use Rattle.qc_laws.proofs.AckMarks.{IsTaken, KeepsMarks, acking_timer, before, came_by, data_marks, elsewhere_timer, held_before, holding_timer, kept_marks, later, or_false, received_asked, received_delay, sealed_marks}
 use Rattle.qc_laws.proofs.AcksAsked.{asks_step, owes_step}
 use Rattle.qc_state.proofs.Ends.{given_by}
@@ -413,6 +415,7 @@ module _ {t : Types} where
   input_result m (input.Transmit time max) choice a may = holding_result time a _ (transmit_holding m time max choice a may)
   input_result m (input.Close time code reason) choice a may = holding_result time a _ (close_by m time _ a (is_open a.state.life.state))
   input_result m (input.Ping time) choice a may = holding_result time a _ (calm_holding m time (Ask a.state.keys.highest) a tt)
+  input_result m (input.Update time) choice a may = holding_result time a _ (holds_updated m (Holding time) (holding_here time) (λ b may_be. calm_holding m time (Update (fresh_now m b.state) (m.after_next b.state.lower.session)) b tt) a)
   input_result m (input.SendDatagram time body) choice a may = holding_result time a _ (calm_holding m time (Post (datagrams.Sent (datagram_limit a.state) true body)) a tt)
   input_result m (input.RecvDatagram time) choice a may = holding_result time a _ (calm_holding m time (Post datagrams.Taken) a tt)
   input_result m (input.Identifiers time given) choice a may = holding_result time a _ (calm_holding m time (Issue time given) a tt)

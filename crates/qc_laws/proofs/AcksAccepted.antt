@@ -24,7 +24,7 @@ use Rattle.qc_state.specs.Keys.{epoch_in}
 use Rattle.qc_state.specs.Forms.{number_space, is_early}
 use Rattle.qc_state.specs.Headline.{deeds_of, KnownBehind, AcksOnly, SealsKnown, AcksKnown, IsKept, EachAcksKnown}
 use Rattle.qc_state.specs.Life.{is_open}
-use Rattle.qc_state.specs.Moves.{Probe, Move, Clock, Ask, Take, Seal, Forget, Enter, Expect, Fail, Accept, Fix, Hear, Ack, Fire, Arm, Pace, Release, Begin, Skip, Come, Read, Write, Ready, Token, Learn, Want, Confirm, Establish, Tell, PeerClosesToo, PeerCloses, Owe, Shut, Raise, Give, Say, ReportReady, ReportConnected, ReportLost, ReportNotice, ReportNotices, ReportDrained, accepts, state_move, move_to, deeds_move, waiting_move, numbers_move, keys_move, life_move, MayMove, IsTold, told, arrival_of, Finish, Hand, Call, ReportStream, ReportStreams, told_to_streams, Post, ReportHeard, ReportAllHeard, Insert, Switch, Retire, Issue, Outlive, Hold, Spend, Discard, Unseal}
+use Rattle.qc_state.specs.Moves.{Probe, Move, Clock, Ask, Take, Seal, Forget, Enter, Expect, Fail, Accept, Fix, Hear, Ack, Fire, Arm, Pace, Release, Begin, Skip, Come, Read, Write, Ready, Token, Learn, Want, Confirm, Establish, Tell, PeerClosesToo, PeerCloses, Owe, Shut, Raise, Give, Say, ReportReady, ReportConnected, ReportLost, ReportNotice, ReportNotices, ReportDrained, accepts, state_move, move_to, deeds_move, waiting_move, numbers_move, keys_move, life_move, MayMove, IsTold, told, arrival_of, Finish, Hand, Call, ReportStream, ReportStreams, told_to_streams, Post, ReportHeard, ReportAllHeard, Insert, Switch, Retire, Issue, Outlive, Hold, Spend, Discard, Unseal, Update}
 use Rattle.qc_state.specs.Numbers.{next_number}
 use Rattle.qc_state.specs.Offers.{packet_begun}
 use Rattle.qc_state.proofs.Probed.{begun_holds}
@@ -44,6 +44,8 @@ use Rattle.qc_path.specs.Acks.{PendingValues, next_bundle}
 use Rattle.qc_path.specs.RoundTrips.{estimate}
 use Rattle.qc_state.specs.Acks.{is_ack}
 use Rattle.qc_state.specs.Setup.{peer_delay}
+use Rattle.qc_state.specs.Updating.{fresh_now}
+use Rattle.qc_state.proofs.Updates.{holds_updated}
 use Rattle.qc_state.proofs.ReceivedMoves.{IsReceived}
 use Rattle.qc_laws.proofs.Receives.{holds_datagram}
 use Rattle.qc_state.proofs.Expired.{IsTimed, holds_timeout}
@@ -169,11 +171,11 @@ module _ {t : Types} where
     pub kept : (n : ℕ) → IsKept id b.state.waiting n → KnownSince id (IsKept id a.state.waiting) since n
 
   -- where no time passes
-  knows_here : (id : SpaceId) (a : At t) → Knows id a a
+  pub knows_here : (id : SpaceId) (a : At t) → Knows id a a
   knows_here id a = record { since = []; appended = sym (append-nil a.did); known = tt; kept = λ n m. m }
 
   -- over two times, one after the other
-  knows_next : (id : SpaceId) (a b c : At t) → Knows id a b → Knows id b c → Knows id a c
+  pub knows_next : (id : SpaceId) (a b c : At t) → Knows id a b → Knows id b c → Knows id a c
   knows_next id a b c g h =
       let K : ℕ → Type 0 = IsKept id a.state.waiting in
       let L : ℕ → Type 0 = IsKept id b.state.waiting in
@@ -226,6 +228,7 @@ module _ {t : Types} where
   knows_move id (Expect token) a h k = silent_knows id (Expect token) a refl (λ n m. m)
   knows_move id Fail a h k = silent_knows id Fail a refl (λ n m. m)
   knows_move id (Unseal time n which fresh session) a h k = silent_knows id (Unseal time n which fresh session) a refl (λ n m. m)
+  knows_move id (Update fresh session) a h k = silent_knows id (Update fresh session) a refl (λ n m. m)
   knows_move id Discard a h k = silent_knows id Discard a refl (λ n m. m)
   knows_move id (Accept time space n e g v) a h k =
       deed_knows id (Accept time space n e g v) (did.Piece (Some space) (Some n) v) a refl tt
@@ -282,7 +285,7 @@ module _ {t : Types} where
   -- ---- inputs
 
   -- what is received seals nothing, and accepts what it says that it accepts
-  received_knows : (x : Move t) (s : View t) → IsReceived x → IsKnowing x s
+  pub received_knows : (x : Move t) (s : View t) → IsReceived x → IsKnowing x s
   received_knows (Forget id) s r = tt
   received_knows (Enter id n v) s r = tt
   received_knows (Expect token) s r = tt
@@ -316,8 +319,9 @@ module _ {t : Types} where
   received_knows _ s r = absurd r
 
   -- what a transmit does beside sealing accepts nothing
-  sending_knows : (x : Move t) (s : View t) → IsSending x → IsKnowing x s
+  pub sending_knows : (x : Move t) (s : View t) → IsSending x → IsKnowing x s
   sending_knows (Ask id) s r = tt
+  sending_knows (Update fresh session) s r = tt
   sending_knows (Begin id opens) s r = tt
   sending_knows Skip s r = tt
   sending_knows (Arm at) s r = tt
@@ -333,7 +337,7 @@ module _ {t : Types} where
   sending_knows _ s r = absurd r
 
   -- a packet is taken and sealed
-  knows_packet : (id : SpaceId) (time : ℕ) (form : Form) (fs : List FrameValue) (a : At t) → IsSealable time a.state form fs →
+  pub knows_packet : (id : SpaceId) (time : ℕ) (form : Form) (fs : List FrameValue) (a : At t) → IsSealable time a.state form fs →
       Knows id a (move_to (Seal time form (next_number a.state.numbers (number_space form)) (packet_size a.state form fs) fs) (move_to (Take (number_space form) fs) a))
   unfolding MayMove move_to state_move numbers_move keys_move life_move waiting_move
   knows_packet id time form fs a may =
@@ -362,7 +366,7 @@ module _ {t : Types} where
       holds_datagram (Knows id) (knows_here id) (knows_next id) (λ x received b may. knows_move id x b may (received_knows x b.state received)) m coming bytes a
 
   -- what a timer does seals nothing, and accepts nothing
-  timed_knows : (x : Move t) (s : View t) → IsTimed x → IsKnowing x s
+  pub timed_knows : (x : Move t) (s : View t) → IsTimed x → IsKnowing x s
   timed_knows (Fire after) s r = tt
   timed_knows (Arm at) s r = tt
   timed_knows Pace s r = tt
@@ -386,6 +390,7 @@ module _ {t : Types} where
   knows_input id m (input.Transmit time max) choice a h = knows_transmit id m time max choice a h
   knows_input id m (input.Close time code reason) choice a h = closed_by id time _ a _ refl
   knows_input id m (input.Ping time) choice a h = knows_move id (Ask a.state.keys.highest) a tt tt
+  knows_input id m (input.Update time) choice a h = holds_updated m (Knows id) (knows_here id) (λ b may. knows_move id (Update (fresh_now m b.state) (m.after_next b.state.lower.session)) b may tt) a
   knows_input id m (input.SendDatagram time body) choice a h = knows_move id (Post (datagrams.Sent (datagram_limit a.state) true body)) a refl tt
   knows_input id m (input.RecvDatagram time) choice a h = knows_move id (Post datagrams.Taken) a refl tt
   knows_input id m (input.Identifiers time given) choice a h = knows_move id (Issue time given) a h tt

@@ -39,7 +39,7 @@ use Rattle.qc_state.specs.Forms.{is_early, number_space}
 use Rattle.qc_state.specs.Headline.{is_datagram}
 use Rattle.qc_state.specs.Keys.{epoch_in, fails_too_often}
 use Rattle.qc_state.specs.Life.{is_open, is_over}
-use Rattle.qc_state.specs.Moves.{Accept, Arm, Ask, Begin, Call, Discard, Enter, Expect, Fail, Finish, Fire, Forget, Give, Hold, Issue, MayMove, Move, Outlive, Owe, Pace, PeerClosesToo, Post, Probe, Raise, Release, Say, Seal, Shut, Skip, Spend, Take, Tell, Unseal, Want, arrival_of, deeds_move, keys_move, move_to, numbers_move, state_move, waiting_move, told}
+use Rattle.qc_state.specs.Moves.{Accept, Arm, Ask, Begin, Call, Discard, Enter, Expect, Fail, Finish, Fire, Forget, Give, Hold, Issue, MayMove, Move, Outlive, Owe, Pace, PeerClosesToo, Post, Probe, Raise, Release, Say, Seal, Shut, Skip, Spend, Take, Tell, Unseal, Want, arrival_of, deeds_move, keys_move, move_to, numbers_move, state_move, waiting_move, told, Update}
 use Rattle.qc_state.specs.Numbers.{came_in, next_number}
 use Rattle.qc_state.specs.Opening.{opening_of}
 use Rattle.qc_state.specs.Paths.{is_blocked}
@@ -49,7 +49,7 @@ use Rattle.qc_state.specs.Sending.{Choice, packet_size}
 use Rattle.qc_state.specs.Spaces.{is_space}
 use Rattle.qc_state.specs.Stopping.{key_limit_error, killed_after, stopped_after, update_error, violation_at}
 use Rattle.qc_state.specs.Types.{Types, Meaning}
-use Rattle.qc_state.specs.Updating.{fresh_by, session_by, unsealed_after}
+use Rattle.qc_state.specs.Updating.{fresh_by, session_by, unsealed_after, fresh_now}
 use Rattle.qc_state.specs.Verdicts.{first_row, verdict_of}
 use Rattle.qc_state.specs.View.{View, At, at}
 use Rattle.qc_state.specs.Waiting.{ack_released, packet_came}
@@ -61,6 +61,7 @@ use Rattle.qc_state.proofs.PacketMoves.{IsInPacket, OpenPacket}
 use Rattle.qc_state.proofs.ReceivedMoves.{IsEnding, IsOutside}
 use Rattle.qc_state.proofs.Telling.{told_appends}
 use Rattle.qc_state.proofs.Transmitted.{IsSending, holds_transmit}
+use Rattle.qc_state.proofs.Updates.{holds_updated}
 use Rattle.qc_laws.specs.AckLaws.{AsksStep, accepts_data, acks_data, asks_ack, is_asked, marks_of, one_asks, opened_payload}
 use Rattle.qc_laws.specs.PieceLaws.{TellsDatagram, TellsPiece, gifts_by, opening_deed, pieces_in}
 use Rattle.qc_laws.specs.StreamLaws.{is_of}
@@ -427,6 +428,7 @@ module _ {t : Types} where
   seals_sending : (x : Move t) → IsSending x → (a : At t) → MayMove x a.state → Seals a (move_to x a)
   unfolding deeds_move
   seals_sending (Ask id) r a may = seals_still (Ask id) a tt refl
+  seals_sending (Update fresh session) r a may = seals_still (Update fresh session) a tt refl
   seals_sending (Forget id) r a may = seals_still (Forget id) a tt refl
   seals_sending (Arm at_time) r a may = seals_still (Arm at_time) a tt refl
   seals_sending (Begin id opens) r a may = seals_still (Begin id opens) a tt refl
@@ -466,6 +468,8 @@ module _ {t : Types} where
   seals_input m (input.Transmit time max) choice a none may = holds_transmit Seals seals_here seals_next seals_sending (λ at_time form fs b h. seals_packet at_time form fs b) m time max choice a may
   seals_input m (input.Close time code reason) choice a none may = seals_close time _ a (is_open a.state.life.state)
   seals_input m (input.Ping time) choice a none may = seals_still (Ask a.state.keys.highest) a tt refl
+  seals_input m (input.Update time) choice a none may =
+      holds_updated m Seals seals_here (λ b may_be. seals_still (Update (fresh_now m b.state) (m.after_next b.state.lower.session)) b tt refl) a
   seals_input m (input.SendDatagram time body) choice a none may = seals_still (Post (datagrams.Sent (datagram_limit a.state) true body)) a tt refl
   seals_input m (input.RecvDatagram time) choice a none may = seals_still (Post datagrams.Taken) a tt refl
   seals_input m (input.Identifiers time given) choice a none may = seals_still (Issue time given) a tt refl

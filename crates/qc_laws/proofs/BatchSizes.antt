@@ -4,7 +4,7 @@ use Rattle.std.proofs.lemmas.Bool.Decides.{nat_tests}
 use Rattle.qc_state.specs.declared.form.Form.{Form}
 use Rattle.qc_state.specs.declared.transmit.Batch.{Batch}
 use Rattle.qc_state.specs.Forms.{is_one_rtt}
-use Rattle.qc_state.specs.Sending.{batch_begun, batch_grown, batch_opened, is_closed_up, is_whole, next_segment, takes_another}
+use Rattle.qc_state.specs.Batches.{batch_begun, batch_grown, batch_opened, is_closed_up, is_whole, next_segment, takes_another}
 
 -- ---- tests
 

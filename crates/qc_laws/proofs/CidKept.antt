@@ -40,7 +40,7 @@ use Rattle.qc_state.specs.Ids.{active_limit, first_error, insert_stop, sealed_ci
 use Rattle.qc_state.specs.Keys.{epoch_in}
 use Rattle.qc_state.specs.Life.{all_heard_reported, connected_reported, data_ready, drained_reported, identifiers_wanted, is_open, life_closed, life_drained, life_established, life_raised, lost_reported, notices_reported, rank_of, ready_reported, reason_given, token_learned}
 use Rattle.qc_state.specs.Lower.{datagrams_stepped, events_told, frames_sealed as frames_taken, ids_stepped, streams_stepped}
-use Rattle.qc_state.specs.Moves.{Accept, Ask, Call, Enter, Establish, Finish, Fire, Fix, Give, Hand, Insert, Issue, MayMove, Move, Owe, PeerCloses, PeerClosesToo, Post, Raise, ReportAllHeard, ReportConnected, ReportDrained, ReportHeard, ReportLost, ReportNotice, ReportNotices, ReportReady, Retire, Seal, Shut, Spend, Switch, Take, Tell, deeds_move, keys_move, life_move, lower_move, move_to, state_move, Unseal}
+use Rattle.qc_state.specs.Moves.{Accept, Ask, Call, Enter, Establish, Finish, Fire, Fix, Give, Hand, Insert, Issue, MayMove, Move, Owe, PeerCloses, PeerClosesToo, Post, Raise, ReportAllHeard, ReportConnected, ReportDrained, ReportHeard, ReportLost, ReportNotice, ReportNotices, ReportReady, Retire, Seal, Shut, Spend, Switch, Take, Tell, deeds_move, keys_move, life_move, lower_move, move_to, state_move, Unseal, Update}
 use Rattle.qc_state.specs.Numbers.{next_number}
 use Rattle.qc_state.specs.Paths.{is_blocked}
 use Rattle.qc_state.specs.Progress.{progress_after}
@@ -50,10 +50,12 @@ use Rattle.qc_state.specs.Run.{IsAllowed, IsStep, Run, began, called, datagram_l
 use Rattle.qc_state.specs.Run as run
 use Rattle.qc_state.specs.Sending.{Choice, packet_size, spent_after, told_sent}
 use Rattle.qc_state.specs.Stopping.{given_after, stopped_after}
-use Rattle.qc_state.specs.Updating.{fresh_by, session_by, unsealed_after}
+use Rattle.qc_state.specs.Updating.{fresh_by, session_by, unsealed_after, fresh_now}
 use Rattle.qc_state.specs.Types.{Types, Meaning}
 use Rattle.qc_state.specs.Verdicts.{verdict_of}
 use Rattle.qc_state.specs.View.{View, At}
+use Rattle.qc_state.proofs.Tried.{holds_tried}
+use Rattle.qc_state.proofs.Updates.{holds_updated}
 use Rattle.qc_state.proofs.Ends.{holds_initial, holds_stopped}
 use Rattle.qc_state.proofs.Expired.{IsExpiry, holds_expired}
 use Rattle.qc_state.proofs.OpenPackets.{packet_received}
@@ -389,10 +391,12 @@ module _ {t : Types} (m : Meaning t) where
       (λ x e b may. move x b (known_about m x b.state (expiry_known m x b.state e)) (expiry_none x e) (may_rise x b.state may)) time a
   input_keeps (input.Transmit time max) choice a h =
       transmit_told m Keeps here next (λ x r b may. move x b (known_about m x b.state (sending_known m x b.state r)) (sending_none x (untold_sending x r)) (may_rise x b.state may))
+      (λ f b. holds_tried m Keeps here (λ c may. move (Update _ _) c tt tt tt) f b)
       (λ at_time size b. move (Spend _) b (record { time = at_time; size = size; is = refl }) tt tt)
       (λ at_time batch b. move (Finish batch.total _) b (record { time = at_time; bytes = batch.total; last = batch.last; is = refl }) tt tt) seal_keeps time max choice a h
   input_keeps (input.Close time code reason) choice a h = closed_by time _ a (is_open a.state.life.state)
   input_keeps (input.Ping time) choice a h = move (Ask a.state.keys.highest) a tt tt tt
+  input_keeps (input.Update time) choice a h = holds_updated m Keeps here (λ b may. move (Update (fresh_now m b.state) (m.after_next b.state.lower.session)) b tt tt tt) a
   input_keeps (input.SendDatagram time body) choice a h = move (Post (datagrams.Sent (datagram_limit a.state) true body)) a tt tt tt
   input_keeps (input.RecvDatagram time) choice a h = move (Post datagrams.Taken) a tt tt tt
   input_keeps (input.Identifiers time ids) choice a h = move (Issue time ids) a tt tt tt

@@ -45,10 +45,10 @@ use Rattle.qc_state.specs.Datagrams.{tells_datagram}
 use Rattle.qc_state.specs.Flight.{flown_packet}
 use Rattle.qc_state.specs.Forms.{is_early, number_space}
 use Rattle.qc_state.specs.Ids.{active_limit, again_ids, fired_ids, preferred_steps, sealed_cids}
-use Rattle.qc_state.specs.Keys.{DataKeys, HandshakeKeys, NewKeys, NoKeys, count_one, epoch_in, failure_counted, key_used, keys_dropped, keys_given, ring_used, key_acked, key_discarded, key_opened}
+use Rattle.qc_state.specs.Keys.{DataKeys, HandshakeKeys, NewKeys, NoKeys, count_one, epoch_in, failure_counted, key_used, keys_dropped, keys_given, ring_used, key_acked, key_discarded, key_opened, key_updated}
 use Rattle.qc_state.specs.Life.{data_ready, identifiers_wanted, is_handshake, life_closed, life_drained, life_established, life_raised, reason_given, token_learned}
 use Rattle.qc_state.specs.Lower.{bytes_came, datagrams_stepped, flight_dropped, frame_handed, frames_sealed as frames_taken, ids_stepped, limits_learned, packet_flown, packets_settled, session_read, session_wrote, streams_closed, streams_stepped, timer_fired}
-use Rattle.qc_state.specs.Moves.{Probe, Accept, Ack, Arm, Begin, Clock, Establish, Expect, Fail, Finish, Fire, Fix, Forget, Give, Hand, Hear, Insert, IsTold as MayBeTold, Issue, Learn, MayMove, Move, Outlive, PeerCloses, PeerClosesToo, Raise, ReportAllHeard, ReportConnected, ReportDrained, ReportHeard, ReportLost, ReportNotice, ReportNotices, ReportReady, Retire, Say, Seal, Shut, Skip, Spend, Switch, Take, Tell, Want, Write, deeds_move, keys_move, life_move, lower_move, move_to, paths_move, setup_move, state_move, Unseal, Discard}
+use Rattle.qc_state.specs.Moves.{Probe, Accept, Ack, Arm, Begin, Clock, Establish, Expect, Fail, Finish, Fire, Fix, Forget, Give, Hand, Hear, Insert, IsTold as MayBeTold, Issue, Learn, MayMove, Move, Outlive, PeerCloses, PeerClosesToo, Raise, ReportAllHeard, ReportConnected, ReportDrained, ReportHeard, ReportLost, ReportNotice, ReportNotices, ReportReady, Retire, Say, Seal, Shut, Skip, Spend, Switch, Take, Tell, Want, Write, deeds_move, keys_move, life_move, lower_move, move_to, paths_move, setup_move, state_move, Unseal, Discard, Update}
 use Rattle.qc_state.specs.Moves as moves
 use Rattle.qc_state.specs.Numbers.{next_number, received_number}
 use Rattle.qc_state.specs.Offers.{begun_ids, oldest_in, probe_ids, wants_sending}
@@ -64,7 +64,7 @@ use Rattle.qc_state.proofs.Quieted.{probed_chosen, quiet_chosen}
 use Rattle.qc_state.proofs.Probed.{begun_streams}
 use Rattle.qc_state.proofs.Telling.{told_appends}
 use Rattle.qc_state.proofs.Transmitted.{IsSealable}
-use Rattle.qc_state.proofs.KeySteps.{acked_moves, discarded_moves, opened_moves, still_no_ring}
+use Rattle.qc_state.proofs.KeySteps.{acked_moves, discarded_moves, opened_moves, still_no_ring, updated_moves}
 use Rattle.qc_laws.specs.CidLaws.{Chosen, Given, IsPeers, Preferred}
 use Rattle.qc_laws.specs.IdLaws.{given_to_ids}
 use Rattle.qc_laws.specs.StreamsLaws.{frames_sealed}
@@ -229,6 +229,7 @@ module _ {t : Types} where
   move_highest m Fail s k h = h
   move_highest m (Unseal time n which fresh session) s k h = sym (opened_moves s.keys which n fresh).highest ∙ h
   move_highest m (Ack id n r) s k h = sym (acked_moves s.keys id n).highest ∙ h
+  move_highest m (Update fresh session) s k h = sym (updated_moves s.keys fresh).highest ∙ h
   move_highest m Discard s k h = sym (discarded_moves s.keys).highest ∙ h
   move_highest m (Write bytes keys session) s k h = given_highest s.keys keys h
   move_highest m _ s k h = h
@@ -455,6 +456,7 @@ module _ {t : Types} (m : Meaning t) (first : List ℕ) (given : List (List ℕ)
   early_handshake Fail s plain h = h
   early_handshake (Unseal time n which fresh session) s plain h = (opened_moves s.keys which n fresh).handshake ∙ h
   early_handshake (Ack id n r) s plain h = (acked_moves s.keys id n).handshake ∙ h
+  early_handshake (Update fresh session) s plain h = (updated_moves s.keys fresh).handshake ∙ h
   early_handshake Discard s plain h = (discarded_moves s.keys).handshake ∙ h
   early_handshake _ s plain h = h
 
@@ -468,6 +470,7 @@ module _ {t : Types} (m : Meaning t) (first : List ℕ) (given : List (List ℕ)
   early_one_rtt Fail s plain h = h
   early_one_rtt (Unseal time n which fresh session) s plain h = still_no_ring s.keys (key_opened s.keys which n fresh) (opened_moves s.keys which n fresh) h
   early_one_rtt (Ack id n r) s plain h = still_no_ring s.keys (key_acked s.keys id n) (acked_moves s.keys id n) h
+  early_one_rtt (Update fresh session) s plain h = still_no_ring s.keys (key_updated s.keys fresh) (updated_moves s.keys fresh) h
   early_one_rtt Discard s plain h = still_no_ring s.keys (key_discarded s.keys) (discarded_moves s.keys) h
   early_one_rtt _ s plain h = h
 

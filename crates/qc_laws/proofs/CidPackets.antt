@@ -38,7 +38,7 @@ use Rattle.qc_state.specs.Keys.{unmasking_key}
 use Rattle.qc_state.specs.Forms.{number_space}
 use Rattle.qc_state.specs.Ids.{active_limit, insert_stop}
 use Rattle.qc_state.specs.Life.{is_handshake, is_open, life_established}
-use Rattle.qc_state.specs.Moves.{Accept, Ask, Call, Clock, Confirm, Enter, Establish, Finish, Fire, Fix, Forget, Insert, Issue, Learn, MayMove, Move, Owe, PeerClosesToo, Post, Seal, Shut, Spend, Switch, Take, Tell, Token, Want, Write, armed_after, keys_move, life_move, lower_move, move_to, paths_move, setup_move, state_move, Unseal}
+use Rattle.qc_state.specs.Moves.{Accept, Ask, Call, Clock, Confirm, Enter, Establish, Finish, Fire, Fix, Forget, Insert, Issue, Learn, MayMove, Move, Owe, PeerClosesToo, Post, Seal, Shut, Spend, Switch, Take, Tell, Token, Want, Write, armed_after, keys_move, life_move, lower_move, move_to, paths_move, setup_move, state_move, Unseal, Update}
 use Rattle.qc_state.specs.Numbers.{next_number}
 use Rattle.qc_state.specs.Opening.{opened_at, opened_form, opened_in, opening_of}
 use Rattle.qc_state.specs.Paths.{is_blocked, peer_fixed}
@@ -49,10 +49,12 @@ use Rattle.qc_state.specs.Run.{IsAllowed, close_after, datagram_limit, input_aft
 use Rattle.qc_state.specs.Sending.{Choice, packet_size, spent_after, told_sent}
 use Rattle.qc_state.specs.Setup.{parameters_known}
 use Rattle.qc_state.specs.Stopping.{missing_parameters, parameter_error, stopped_after}
-use Rattle.qc_state.specs.Updating.{fresh_by, session_by, unsealed_after}
+use Rattle.qc_state.specs.Updating.{fresh_by, session_by, unsealed_after, fresh_now}
 use Rattle.qc_state.specs.Types.{Types, Meaning}
 use Rattle.qc_state.specs.Verdicts.{verdict_of}
 use Rattle.qc_state.specs.View.{View, At}
+use Rattle.qc_state.proofs.Tried.{holds_tried}
+use Rattle.qc_state.proofs.Updates.{holds_updated}
 use Rattle.qc_state.proofs.Ends.{holds_armed_now, holds_initial, holds_stopped}
 use Rattle.qc_state.proofs.Expired.{IsExpiry, holds_expired}
 use Rattle.qc_state.proofs.OpenPackets.{holds_packet, packet_received}
@@ -534,10 +536,12 @@ module _ {t : Types} (m : Meaning t) (first : List ℕ) (given : List (List ℕ)
   input_leads (input.Transmit time max) choice a issued h =
       transmit_told m OnceLeads leads_here_once leads_next_once
       (λ x r b may. plain x b (sending_plain x (untold_sending x r)) (known_about m x b.state (sending_known m x b.state r)) (may_tell x b.state may) (sending_issued x (untold_sending x r)))
+      (λ f b. holds_tried m OnceLeads leads_here_once (λ c may. plain (Update _ _) c tt tt tt tt) f b)
       (λ at_time size b. plain (Spend _) b tt (record { time = at_time; size = size; is = refl }) tt tt)
       (λ at_time batch b. plain (Finish batch.total _) b tt (record { time = at_time; bytes = batch.total; last = batch.last; is = refl }) tt tt) seal time max choice a h
   input_leads (input.Close time code reason) choice a issued h = closed_by time _ a (is_open a.state.life.state)
   input_leads (input.Ping time) choice a issued h = plain (Ask a.state.keys.highest) a tt tt tt tt
+  input_leads (input.Update time) choice a issued h = holds_updated m OnceLeads leads_here_once (λ b may. plain (Update (fresh_now m b.state) (m.after_next b.state.lower.session)) b tt tt tt tt) a
   input_leads (input.SendDatagram time body) choice a issued h = plain (Post (datagrams.Sent (datagram_limit a.state) true body)) a tt tt tt tt
   input_leads (input.RecvDatagram time) choice a issued h = plain (Post datagrams.Taken) a tt tt tt tt
   input_leads (input.Identifiers time ids) choice a issued h = plain (Issue time ids) a tt tt tt issued

@@ -37,10 +37,10 @@ use Rattle.qc_state.specs.declared.trace.Step.{Step}
 use Rattle.qc_state.specs.Acks.{is_ack}
 use Rattle.qc_laws.specs.EndLaws.{Ends}
 use Rattle.qc_state.specs.Headline.{deeds_of}
-use Rattle.qc_state.specs.Keys.{NewKeys, failure_counted, has_keys, keys_given, epoch_in, key_acked, key_discarded, key_opened}
+use Rattle.qc_state.specs.Keys.{NewKeys, failure_counted, has_keys, keys_given, epoch_in, key_acked, key_discarded, key_opened, key_updated}
 use Rattle.qc_state.specs.Life.{connected_reported, data_ready, drained_reported, identifiers_wanted, is_open, life_closed, life_drained, life_established, life_raised, lost_reported, ready_reported, reason_given, token_learned, notice_reported, notices_reported, all_heard_reported, heard_reported}
 use Rattle.qc_state.specs.Lower.{bytes_came, flight_dropped, packet_flown, packets_settled, session_read, session_wrote, timer_fired, limits_learned, frame_handed, streams_closed, streams_stepped, event_told, events_told, datagrams_stepped, frames_sealed, ids_stepped}
-use Rattle.qc_state.specs.Moves.{Accept, Ack, AreNext, Ask, Begin, Clock, Confirm, PeerClosesToo, Establish, Fail, Fire, Forget, Give, PeerCloses, MayMove, Move, Owe, Raise, Release, ReportConnected, ReportDrained, ReportLost, ReportReady, ReportNotice, ReportNotices, Seal, Shut, Take, Write, arrival_of, keys_move, life_move, lower_move, paths_move, state_move, waiting_move, ReportStream, ReportStreams, ReportHeard, ReportAllHeard, Hand, Insert, Switch, Retire, Unseal, Discard}
+use Rattle.qc_state.specs.Moves.{Accept, Ack, AreNext, Ask, Begin, Clock, Confirm, PeerClosesToo, Establish, Fail, Fire, Forget, Give, PeerCloses, MayMove, Move, Owe, Raise, Release, ReportConnected, ReportDrained, ReportLost, ReportReady, ReportNotice, ReportNotices, Seal, Shut, Take, Write, arrival_of, keys_move, life_move, lower_move, paths_move, state_move, waiting_move, ReportStream, ReportStreams, ReportHeard, ReportAllHeard, Hand, Insert, Switch, Retire, Unseal, Discard, Update}
 use Rattle.qc_state.specs.Numbers.{next_number}
 use Rattle.qc_state.specs.Numbers as numbers
 use Rattle.qc_state.specs.Offers.{packet_begun}
@@ -58,7 +58,7 @@ use Rattle.qc_laws.proofs.KnownMoves.{IsFiredBy, IsKnownMove, IsSettledBy}
 use Rattle.qc_state.proofs.Probed.{begun_holds, begun_streams}
 use Rattle.qc_state.proofs.OpenPackets.{IsUnacked}
 use Rattle.qc_laws.proofs.RecoveryFold.{Covers, covers_next, covers_same, fold_from, input_part, kept_same, recovers_by}
-use Rattle.qc_state.proofs.KeySteps.{acked_moves, discarded_moves, opened_moves, same_keys}
+use Rattle.qc_state.proofs.KeySteps.{acked_moves, discarded_moves, opened_moves, same_keys, updated_moves}
 use Rattle.qc_state.proofs.Transmitted.{IsSealable}
 use Rattle.qc_laws.proofs.CryptoBuffers.{More, crypto_more_holds, crypto_more_sent, lost_in_more, more_here, more_next, more_same}
 use Rattle.qc_laws.proofs.CryptoPlaces.{FiresIn, ack_flight, ack_other, acked_crypto, apart_lower, apart_values, bundled_spaces, came_crypto, dropped_highest, dropped_keys, failed_keys, fire_kept, fired_flight, flown_lower, given_above, given_keys, given_open, here_values, in_other, in_same, left_counts, more_bytes, narrow, none_written, not_above, put_again, put_crypto, put_other, rank_other, same_or, sealed_apart, sealed_stream, settled_bytes, settled_other, settled_stream, used_highest, used_keys, written_same}
@@ -147,6 +147,7 @@ module _ {t : Types} where
   still_highest (Write bytes keys session) s h = absurd h
   still_highest (Begin space opens) s h = absurd h
   still_highest (Unseal time n which fresh session) s h = (opened_moves s.keys which n fresh).highest
+  still_highest (Update fresh session) s h = (updated_moves s.keys fresh).highest
   still_highest Discard s h = (discarded_moves s.keys).highest
   still_highest _ s h = refl
 
@@ -162,6 +163,7 @@ module _ {t : Types} where
   still_keys (Write bytes keys session) s id h k = absurd h
   still_keys (Begin space opens) s id h k = absurd h
   still_keys (Unseal time n which fresh session) s id h k = sym (same_keys s.keys (key_opened s.keys which n fresh) (opened_moves s.keys which n fresh) id) ∙ k
+  still_keys (Update fresh session) s id h k = sym (same_keys s.keys (key_updated s.keys fresh) (updated_moves s.keys fresh) id) ∙ k
   still_keys Discard s id h k = sym (same_keys s.keys (key_discarded s.keys) (discarded_moves s.keys) id) ∙ k
   still_keys _ s id h k = k
 

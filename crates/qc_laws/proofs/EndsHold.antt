@@ -22,7 +22,7 @@ use Rattle.qc_laws.specs.EndLaws.{EndHolds, Ends, NoTimer}
 use Rattle.qc_state.specs.Forms.{number_space}
 use Rattle.qc_state.specs.Life.{connected_reported, data_ready, drained_reported, identifiers_wanted, is_closed, is_drained, is_open, life_closed, life_drained, life_established, life_raised, lost_reported, rank_of, ready_reported, reason_given, token_learned, notice_reported, notices_reported, all_heard_reported, is_over}
 use Rattle.qc_state.specs.Keys.{ring_of, sets_floor}
-use Rattle.qc_state.specs.Moves.{Probe, Accept, Ack, Arm, Ask, Begin, Clock, Come, Confirm, PeerClosesToo, Enter, Establish, Expect, Fail, Finish, Fire, Fix, Forget, Give, Hear, IsArmed, Learn, PeerCloses, MayMove, Move, Owe, Pace, Raise, Read, Ready, Release, ReportConnected, ReportDrained, ReportLost, ReportReady, ReportNotice, ReportNotices, Say, Seal, Shut, Skip, Take, Tell, Token, Want, Write, keys_move, life_move, move_to, numbers_move, state_move, timers_move, waiting_move, Call, Hand, ReportStream, ReportStreams, Post, ReportHeard, ReportAllHeard, Insert, Switch, Retire, Issue, Outlive, Hold, Spend, Discard, Unseal}
+use Rattle.qc_state.specs.Moves.{Probe, Accept, Ack, Arm, Ask, Begin, Clock, Come, Confirm, PeerClosesToo, Enter, Establish, Expect, Fail, Finish, Fire, Fix, Forget, Give, Hear, IsArmed, Learn, PeerCloses, MayMove, Move, Owe, Pace, Raise, Read, Ready, Release, ReportConnected, ReportDrained, ReportLost, ReportReady, ReportNotice, ReportNotices, Say, Seal, Shut, Skip, Take, Tell, Token, Want, Write, keys_move, life_move, move_to, numbers_move, state_move, timers_move, waiting_move, Call, Hand, ReportStream, ReportStreams, Post, ReportHeard, ReportAllHeard, Insert, Switch, Retire, Issue, Outlive, Hold, Spend, Discard, Unseal, Update}
 use Rattle.qc_state.specs.Numbers.{next_number}
 use Rattle.qc_state.specs.Offers.{packet_begun}
 use Rattle.qc_state.specs.Recovering.{loss_time, probe_timeout_now}
@@ -208,6 +208,7 @@ module _ {t : Types} where
   move_keeps (Expect token) r a may = λ h. h
   move_keeps Fail r a may = λ h. h
   move_keeps (Unseal time n which fresh session) r a may = λ h. kept_holds (sets_floor which fresh (ring_of a.state.keys)) a.state.life.state a.state.timers (probe_timeout_now a.state «Data») time a.state.waiting.close_owed (not_drained a.state.life.state may) h
+  move_keeps (Update fresh session) r a may = λ h. h
   move_keeps Discard r a may = λ h. record { closing = h.closing; ended = λ d. none_discarded a.state.timers (h.ended d); owed = h.owed }
   move_keeps (Accept time id n e g v) r a may = λ h. open_holds a.state.life.state a.state.timers _ a.state.waiting.close_owed may.2 h
   move_keeps (Fix cid) r a may = λ h. h

@@ -422,6 +422,7 @@ module _ {t : Types} (m : Meaning t) (More : List Step → List (RecoveryStep t.
   input_does (input.Transmit time max) x choice s may answers ends = other_does (input.Transmit time max) x choice s refl may ends
   input_does (input.Close time code reason) x choice s may answers ends = other_does (input.Close time code reason) x choice s refl may ends
   input_does (input.Ping time) x choice s may answers ends = other_does (input.Ping time) x choice s refl may ends
+  input_does (input.Update time) x choice s may answers ends = other_does (input.Update time) x choice s refl may ends
   input_does (input.SendDatagram time body) x choice s may answers ends = post_does (datagrams.Sent (datagram_limit (began s time).state) true body) (input.SendDatagram time body) x choice s refl
   input_does (input.RecvDatagram time) x choice s may answers ends = post_does datagrams.Taken (input.RecvDatagram time) x choice s refl
   input_does (input.Identifiers time given) x choice s may answers ends = issue_does time given (input.Identifiers time given) x choice s refl

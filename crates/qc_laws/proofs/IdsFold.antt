@@ -317,6 +317,7 @@ module _ {t : Types} where
   input_folds m (input.Transmit time max) choice a may = known_other m (Folds []) folds_here folds_next (move_folds m) packet_folds (input.Transmit time max) choice a refl may
   input_folds m (input.Close time code reason) choice a may = known_other m (Folds []) folds_here folds_next (move_folds m) packet_folds (input.Close time code reason) choice a refl may
   input_folds m (input.Ping time) choice a may = known_other m (Folds []) folds_here folds_next (move_folds m) packet_folds (input.Ping time) choice a refl may
+  input_folds m (input.Update time) choice a may = known_other m (Folds []) folds_here folds_next (move_folds m) packet_folds (input.Update time) choice a refl may
   input_folds m (input.SendDatagram time body) choice a may = record { since = []; appended = sym (append-nil a.did); steps = []; leads = refl; are = apart_are [] [] tt refl refl }
   input_folds m (input.RecvDatagram time) choice a may = record { since = []; appended = sym (append-nil a.did); steps = []; leads = refl; are = apart_are [] [] tt refl refl }
   input_folds m (input.Identifiers time given) choice a may = record {

@@ -16,7 +16,7 @@ use Rattle.qc_state.specs.declared.transmit.Batch.{Batch}
 use Rattle.qc_state.specs.Headline.{IsRight, Kernel, Tells, kernel_after}
 use Rattle.qc_state.specs.Life.{is_drained, rank_of}
 use Rattle.qc_state.specs.Moves.{IsTold, accepts, enters}
-use Rattle.qc_state.specs.Sending.{batch_opened, is_in_order}
+use Rattle.qc_state.specs.Batches.{batch_opened, is_in_order}
 use Rattle.qc_state.specs.Spaces.{is_space}
 use Rattle.qc_laws.specs.InitialLaws.{NoneInitial, has_left, leaves_with, seals_initial}
 

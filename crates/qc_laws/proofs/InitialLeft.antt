@@ -11,6 +11,7 @@ use Rattle.qc_frame.specs.Payload.{items_of}
 use Rattle.qc_rings.specs.declared.which.Which.{Which}
 use Rattle.qc_state.specs.declared.form.Form.{Form}
 use Rattle.qc_state.specs.declared.form.Form.TheVariants as form
+use Rattle.qc_state.specs.declared.keys.Fresh.{Fresh}
 use Rattle.qc_state.specs.declared.coming.Coming.{Coming}
 use Rattle.qc_state.specs.declared.deeds.Did.{Did}
 use Rattle.qc_state.specs.declared.deeds.Did.TheVariants as did
@@ -30,19 +31,20 @@ use Rattle.qc_state.specs.declared.transmit.Batch.{Batch}
 use Rattle.qc_state.specs.Forms.{number_space, is_early}
 use Rattle.qc_state.specs.Headline.{deeds_of}
 use Rattle.qc_laws.specs.InitialLaws.{LeavesInitial, NoneInitial, has_left, is_left, leaves_with, seals_initial}
-use Rattle.qc_state.specs.Keys.{NewKeys, NoKeys, HandshakeKeys, DataKeys, count_one, failure_counted, has_keys, key_used, keys_dropped, keys_given, epoch_in, form_in, has_keys_for, key_acked, key_discarded, key_opened}
+use Rattle.qc_state.specs.Keys.{NewKeys, NoKeys, HandshakeKeys, DataKeys, count_one, failure_counted, has_keys, key_used, keys_dropped, keys_given, epoch_in, form_in, has_keys_for, key_acked, key_discarded, key_opened, key_updated}
 use Rattle.qc_state.specs.Life.{all_heard_reported, connected_reported, drained_reported, is_drained, is_open, is_over, life_raised, lost_reported, notice_reported, notices_reported, rank_of, ready_reported, reason_given}
-use Rattle.qc_state.specs.Moves.{Accept, Arm, Ask, Begin, PeerClosesToo, Enter, Establish, Expect, Fail, Finish, Forget, Give, Hold, IsTold, Learn, PeerCloses, MayMove, Move, Owe, Raise, Say, Seal, Shut, Skip, Spend, Take, Tell, Write, accepts, armed_with, deeds_move, keys_move, life_move, move_to, setup_move, state_move, Hand, Call, Post, Insert, Retire, Issue, Unseal, Ack, Discard}
+use Rattle.qc_state.specs.Moves.{Accept, Arm, Ask, Begin, PeerClosesToo, Enter, Establish, Expect, Fail, Finish, Forget, Give, Hold, IsTold, Learn, PeerCloses, MayMove, Move, Owe, Raise, Say, Seal, Shut, Skip, Spend, Take, Tell, Write, accepts, armed_with, deeds_move, keys_move, life_move, move_to, setup_move, state_move, Hand, Call, Post, Insert, Retire, Issue, Unseal, Ack, Discard, Update}
 use Rattle.qc_state.specs.Numbers.{is_skipped, next_number}
 use Rattle.qc_state.specs.Paths.{is_blocked}
 use Rattle.qc_state.specs.Receiving.{accepted_after, admitted_after, datagram_after, fixed_after, is_close_item, is_eliciting_item, read_for_close, received_after, signs_of, verdict_after}
 use Rattle.qc_state.specs.Run.{IsAllowed, IsStep, Run, began, called, close_after, input_after, reported, step_after, time_of, datagram_limit}
-use Rattle.qc_state.specs.Sending.{Choice, Died, Ending, Going, Held, Hushed, MayAll, MayEnd, MayFollow, MayTransmit, Probed, Sent, Went, batch_grown, begun_after, begun_batch, drops_initial, ending_after, finished_after, flown_after, going_from, gone_after, handshake_left, held_after, initial_left, is_flown, is_in_order, leaves_initial, packet_after, packet_size, packets_after, sealed_in, skipped_after, spared_after, spent_after, told_sent, transmit_after}
+use Rattle.qc_state.specs.Batches.{batch_grown, is_in_order}
+use Rattle.qc_state.specs.Sending.{Choice, Died, Ending, Going, Held, Hushed, MayAll, MayEnd, MayFollow, MayTransmit, Probed, Sent, Went, begun_after, begun_batch, drops_initial, ending_after, finished_after, flown_after, going_from, gone_after, handshake_left, held_after, initial_left, is_flown, leaves_initial, packet_after, packet_size, packets_after, sealed_in, skipped_after, spared_after, spent_after, told_sent, transmit_after, going_tried, going}
 use Rattle.qc_state.specs.Setup.{packet_drawn, parameters_known, token_expected, word_drawn}
 use Rattle.qc_state.specs.Stopping.{given_after, killed_after}
 use Rattle.qc_state.specs.Spaces.{is_space, space_of}
 use Rattle.qc_state.specs.Timeouts.{timeout_after}
-use Rattle.qc_state.specs.Updating.{fresh_by, session_by, unsealed_after}
+use Rattle.qc_state.specs.Updating.{fresh_by, session_by, unsealed_after, fresh_now, tried_after}
 use Rattle.qc_state.specs.Types.{Types, Meaning}
 use Rattle.qc_state.specs.Verdicts.{verdict_of}
 use Rattle.qc_state.specs.View.{View, At}
@@ -53,14 +55,16 @@ use Rattle.qc_state.proofs.PacketMoves.{IsInPacket, OpenPacket}
 use Rattle.qc_state.proofs.ReceivedMoves.{IsOutside}
 use Rattle.qc_laws.proofs.Receives.{datagram_holds}
 use Rattle.qc_state.proofs.Telling.{Told, kernel, told_appends}
-use Rattle.qc_state.proofs.Transmitted.{IsPacketMove, IsSending, holds_ending, holds_packets, holds_spared, owing_keyed}
-use Rattle.qc_state.proofs.KeySteps.{acked_moves, discarded_moves, opened_moves, same_keys}
+use Rattle.qc_state.proofs.Transmitted.{IsPacketMove, IsSending, holds_ending, holds_packet as holds_sealing, holds_spared, owing_keyed, beginning_packet}
+use Rattle.qc_state.proofs.KeySteps.{acked_moves, discarded_moves, opened_moves, same_keys, updated_moves}
 use Rattle.qc_laws.proofs.CryptoPlaces.{given_open}
 use Rattle.qc_laws.proofs.InitialDeeds.{accepted_quiet, drained_high, either, high_drained, late_space, left_append, left_by_test, none_append, not_left, one_silent, opened_shook, or_first, or_second, piece_silent, sealed_initial, sealed_shakes, shaking_late, silent_append, silent_left, silent_none, SilentBut, tells_rank, test_of_left, told_silent}
 use Rattle.qc_laws.proofs.Told.{told_input}
 use Rattle.qc_laws.proofs.StreamCalls.{called_input, handed_told}
 use Rattle.qc_state.specs.declared.deeds.Layer.TheVariants as layer
+use Rattle.qc_state.proofs.Updates.{holds_updated}
 use Rattle.qc_datagrams.specs.Steps as datagrams
+use Rattle.qc_state.proofs.Tried.{holds_tried}
 
 -- ---- keys
 
@@ -115,6 +119,7 @@ module _ {t : Types} where
   move_gone Fail a h = failed_gone a.state.keys h
   move_gone (Unseal time n which fresh session) a h = same_keys a.state.keys (key_opened a.state.keys which n fresh) (opened_moves a.state.keys which n fresh) Initial ∙ h
   move_gone (Ack id n r) a h = same_keys a.state.keys (key_acked a.state.keys id n) (acked_moves a.state.keys id n) Initial ∙ h
+  move_gone (Update fresh session) a h = same_keys a.state.keys (key_updated a.state.keys fresh) (updated_moves a.state.keys fresh) Initial ∙ h
   move_gone Discard a h = same_keys a.state.keys (key_discarded a.state.keys) (discarded_moves a.state.keys) Initial ∙ h
   move_gone (Write bytes keys session) a h = given_gone a.state.keys keys h
   move_gone _ a h = h
@@ -384,16 +389,16 @@ module _ {t : Types} where
       let b : At t = move_to (Seal time p.form n (packet_size a.state p.form p.frames) p.frames) (move_to (Take (number_space p.form) p.frames) a) in
       flown_deeds m time (packet_size a.state p.form p.frames) b (is_flown a.state p.frames) ∙ sealed_deeds time p.form n (packet_size a.state p.form p.frames) p.frames a ∙ ap (λ (ds : List Did). ds ++ sealed_deed p a ∷ []) (begun_deeds (number_space p.form) p.opens g.now)
 
-  -- packets get the space no keys, and leave the side
-  packets_gone : (m : Meaning t) (time : ℕ) (ps : List Sent) (g : Going t) → MayAll m time g ps → Gone g.now → Gone (packets_after m time ps g).now
-  packets_gone m time ps g may =
-      holds_packets (λ c d. Gone c → Gone d) (λ d h. h) (λ d e f h k z. k (h z)) (λ x r d h. move_gone x d)
-      (λ time form fs d h z. move_gone (Seal time form (next_number d.state.numbers (number_space form)) (packet_size d.state form fs) fs) (move_to (Take (number_space form) fs) d) (move_gone (Take (number_space form) fs) d z)) m time ps g may
+  -- a packet gets the space no keys, and leaves the side
+  packet_gone : (m : Meaning t) (time : ℕ) (p : Sent) (g : Going t) → MayFollow m time g.now.state g.batch p → Gone g.now → Gone (packet_after m time p g).now
+  packet_gone m time p g may =
+      holds_sealing (λ c d. Gone c → Gone d) (λ d h. h) (λ d e f h k z. k (h z)) (λ x r d h. move_gone x d)
+      (λ time form fs d h z. move_gone (Seal time form (next_number d.state.numbers (number_space form)) (packet_size d.state form fs) fs) (move_to (Take (number_space form) fs) d) (move_gone (Take (number_space form) fs) d z)) m time p g may
 
-  packets_side : (m : Meaning t) (time : ℕ) (ps : List Sent) (g : Going t) → MayAll m time g ps → side_of (packets_after m time ps g).now ≡ side_of g.now
-  packets_side m time ps g may =
-      holds_packets (λ c d. side_of d ≡ side_of c) (λ d. refl) (λ d e f h k. k ∙ h) (λ x r d h. move_side x d)
-      (λ time form fs d h. move_side (Seal time form (next_number d.state.numbers (number_space form)) (packet_size d.state form fs) fs) (move_to (Take (number_space form) fs) d) ∙ move_side (Take (number_space form) fs) d) m time ps g may
+  packet_side : (m : Meaning t) (time : ℕ) (p : Sent) (g : Going t) → MayFollow m time g.now.state g.batch p → side_of (packet_after m time p g).now ≡ side_of g.now
+  packet_side m time p g may =
+      holds_sealing (λ c d. side_of d ≡ side_of c) (λ d. refl) (λ d e f h k. k ∙ h) (λ x r d h. move_side x d)
+      (λ time form fs d h. move_side (Seal time form (next_number d.state.numbers (number_space form)) (packet_size d.state form fs) fs) (move_to (Take (number_space form) fs) d) ∙ move_side (Take (number_space form) fs) d) m time p g may
 
   -- a client that sealed a Handshake packet leaves the space as its transmit ends
   finished_gone : (m : Meaning t) (time : ℕ) (b : Batch) (a : At t) → side_of a ≡ Client → b.shook ≡ true → Gone (finished_after m time b a)
@@ -423,7 +428,7 @@ module _ {t : Types} where
   ending_left m time Held b a may some client shook = inl (finished_gone m time b (held_after m time Pacing b a) (held_side m time b a ∙ client) shook)
   ending_left m time (Hushed quiet) b a may some client shook = let none : b.made ≡ 0 = may.0 in absurd (omega (arith, none, some))
   ending_left m time (Probed quiet size) b a may some client shook = let none : b.made ≡ 0 = may.0.none in absurd (omega (arith, none, some))
-  ending_left m time (Died why) b a may some client shook = inr (killed_ended why a)
+  ending_left m time (Died f why) b a may some client shook = inr (killed_ended why (tried_after m f a))
 
   -- a packet of the Data space is nothing of the Initial space
   data_quiet : (time n size : ℕ) (fs : List FrameValue) (a : At t) → Quiet ⊥ a (move_to (Seal time form.OneRtt n size fs) (move_to (Take «Data» fs) a))
@@ -462,6 +467,7 @@ module _ {t : Types} where
   unfolding move_to state_move life_move
   alive_move (Begin id opens) r d = refl
   alive_move Skip r d = refl
+  alive_move (Update fresh session) r d = refl
   alive_move (Spend tokens) r d = refl
   alive_move (Arm at) r d = refl
   alive_move _ r d = absurd r
@@ -472,7 +478,7 @@ module _ {t : Types} where
 
   packet_alive : (m : Meaning t) (time : ℕ) (p : Sent) (g : Going t) → MayFollow m time g.now.state g.batch p → is_drained (packet_after m time p g).now.state.life.state ≡ is_drained g.now.state.life.state
   packet_alive m time p g may =
-      holds_packets (λ (c d : At t). is_drained d.state.life.state ≡ is_drained c.state.life.state) (λ d. refl) (λ d e f h k. k ∙ h) (λ x r d h. alive_move x r d) (λ time form fs d h. alive_seal time _ _ form fs d) m time (p ∷ []) g (may, tt)
+      holds_sealing (λ (c d : At t). is_drained d.state.life.state ≡ is_drained c.state.life.state) (λ d. refl) (λ d e f h k. k ∙ h) (λ x r d h. alive_move x (beginning_packet x r) d) (λ time form fs d h. alive_seal time _ _ form fs d) m time p g may
 
   -- what is known of the packets of a transmit so far: an end that had left before them seals no Initial packet, and one that has left behind them
   -- had before, or is a client, and the batch notes it
@@ -540,16 +546,37 @@ module _ {t : Types} where
             (λ l. shown_before side m time p g left (h.shown left l))
             (λ w. let shakes = sealed_shakes side (number_space p.form) _ _ _ p.frames w in inr (shakes.0, packet_shook m time p g shakes.1))
             (sym (left_append side left h.since (sealed ∷ [])) ∙ e);
-        gone = λ z. packets_gone m time (p ∷ []) g (may, tt) (h.gone z);
+        gone = λ z. packet_gone m time p g may (h.gone z);
         alive = packet_alive m time p g may ∙ h.alive;
-        same = packets_side m time (p ∷ []) g (may, tt) ∙ h.same;
+        same = packet_side m time p g may ∙ h.same;
         some = λ s. packet_made m time p g may;
         behind = shook_behind m time p g may.begins.turn.order h.behind;
       }
 
+  -- an update that is tried for a packet leaves that
+  shows_updated : (side : Side) (m : Meaning t) (fresh : Option (Fresh t.P)) (session : t.S) (a : At t) (g : Going t) → Shows side a g → Shows side a (going (move_to (Update fresh session) g.now) g.batch g.out)
+  unfolding move_to state_move life_move setup_move deeds_move
+  shows_updated side m fresh session a g h = record {
+    since = h.since;
+    appended = h.appended;
+    none = h.none;
+    shown = h.shown;
+    gone = λ z. move_gone (Update fresh session) g.now (h.gone z);
+    alive = h.alive;
+    same = h.same;
+    some = h.some;
+    behind = h.behind;
+  }
+
+  shows_tried : (side : Side) (m : Meaning t) (f : Form) (a : At t) (g : Going t) → Shows side a g → Shows side a (going_tried m f g)
+  shows_tried side m f a g =
+      holds_tried m (λ (b c : At t). Shows side a (going b g.batch g.out) → Shows side a (going c g.batch g.out)) (λ b h. h) (λ b may h. shows_updated side m _ _ a (going b g.batch g.out) h) f g.now
+
   shows_packets : (side : Side) (m : Meaning t) (time : ℕ) (ps : List Sent) (a : At t) (g : Going t) → MayAll m time g ps → Shows side a g → Shows side a (packets_after m time ps g)
   shows_packets side m time [] a g may h = h
-  shows_packets side m time (p ∷ ps) a g may h = shows_packets side m time ps a (packet_after m time p g) may.1 (shows_packet side m time p a g may.0 h)
+  shows_packets side m time (p ∷ ps) a g may h =
+      let f : Going t = going_tried m p.form g in
+      shows_packets side m time ps a (packet_after m time p f) may.1 (shows_packet side m time p a f may.0 (shows_tried side m p.form a g h))
 
   -- so it is behind them, however the transmit ends
   shown_left : (side : Side) (m : Meaning t) (time : ℕ) (e : Ending) (a : At t) (g : Going t) (left : Bool) → Shows side a g → MayEnd m time e g.now.state g.batch → (Ended a → Ended (ending_after m time e g.batch g.now)) → side_of a ≡ side →
@@ -597,6 +624,7 @@ module _ {t : Types} where
   input_departs side m (input.Transmit time max) choice a may stays = transmit_departs side m time max choice a may stays
   input_departs side m (input.Close time code reason) choice a may stays = leaves_departs side a _ (closed_by side time _ a (is_open a.state.life.state)) stays
   input_departs side m (input.Ping time) choice a may stays = leaves_departs side a _ (move_leaves side (Ask a.state.keys.highest) tt a) stays
+  input_departs side m (input.Update time) choice a may stays = leaves_departs side a _ (holds_updated m (Leaves side) (leaves_here side) (λ b may_be. move_leaves side (Update (fresh_now m b.state) (m.after_next b.state.lower.session)) tt b) a) stays
   input_departs side m (input.SendDatagram time body) choice a may stays = leaves_departs side a _ (move_leaves side (Post (datagrams.Sent (datagram_limit a.state) true body)) tt a) stays
   input_departs side m (input.RecvDatagram time) choice a may stays = leaves_departs side a _ (move_leaves side (Post datagrams.Taken) tt a) stays
   input_departs side m (input.Identifiers time given) choice a may stays = leaves_departs side a _ (move_leaves side (Issue time given) tt a) stays

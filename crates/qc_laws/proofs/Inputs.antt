@@ -9,12 +9,14 @@ use Rattle.qc_state.specs.declared.life.State.TheVariants.{Drained}
 use Rattle.qc_state.specs.Forms.{number_space}
 use Rattle.qc_state.specs.Headline.{is_datagram}
 use Rattle.qc_state.specs.Life.{is_open}
-use Rattle.qc_state.specs.Moves.{Probe, Move, MayMove, Arm, Ask, Begin, Clock, Finish, Fire, Forget, Give, Pace, Raise, Release, ReportConnected, ReportDrained, ReportLost, ReportReady, ReportNotice, ReportNotices, Say, Seal, Shut, Skip, Take, keys_move, life_move, move_to, numbers_move, state_move, Call, ReportStream, ReportStreams, Post, ReportHeard, ReportAllHeard, Issue, Outlive, Want, Hold, Spend, Discard}
+use Rattle.qc_state.specs.Moves.{Probe, Move, MayMove, Arm, Ask, Begin, Clock, Finish, Fire, Forget, Give, Pace, Raise, Release, ReportConnected, ReportDrained, ReportLost, ReportReady, ReportNotice, ReportNotices, Say, Seal, Shut, Skip, Take, keys_move, life_move, move_to, numbers_move, state_move, Call, ReportStream, ReportStreams, Post, ReportHeard, ReportAllHeard, Issue, Outlive, Want, Hold, Spend, Update, Discard}
 use Rattle.qc_state.specs.Numbers.{next_number}
 use Rattle.qc_state.specs.Run.{IsAllowed, close_after, input_after, datagram_limit}
 use Rattle.qc_state.specs.Sending.{Choice, packet_size}
 use Rattle.qc_state.specs.Types.{Types, Meaning}
 use Rattle.qc_state.specs.View.{At}
+use Rattle.qc_state.specs.Updating.{fresh_now}
+use Rattle.qc_state.proofs.Updates.{holds_updated}
 use Rattle.qc_state.proofs.Expired.{IsTimed, holds_timeout}
 use Rattle.qc_state.proofs.ReceivedMoves.{IsReceived}
 use Rattle.qc_laws.proofs.Receives.{holds_datagram}
@@ -42,6 +44,7 @@ IsMade _ = Unit {0}
 -- the moves that an input makes which is no datagram: none of them tells of a packet that came, or of what is given to a layer
 abbrev pub IsOwn : {t : Types} → Move t → Type 0
 IsOwn (Ask id) = Unit {0}
+IsOwn (Update fresh session) = Unit {0}
 IsOwn (Take id fs) = Unit {0}
 IsOwn (Seal time form n size fs) = Unit {0}
 IsOwn (Forget id) = Unit {0}
@@ -82,6 +85,7 @@ timed_own _ r = absurd r
 
 sending_own : {t : Types} (x : Move t) → IsSending x → IsOwn x
 sending_own (Ask id) r = tt
+sending_own (Update fresh session) r = tt
 sending_own (Forget id) r = tt
 sending_own (Arm at) r = tt
 sending_own (Begin id opens) r = tt
@@ -152,6 +156,7 @@ module _ {t : Types} (R : At t → At t → Type 0) (here : (a : At t) → R a a
   holds_own m (input.Transmit time max) choice a none h = holds_transmit R here next (λ x r. move x (sending_own x r)) sealed m time max choice a h
   holds_own m (input.Close time code reason) choice a none h = closed_by time _ a _ refl
   holds_own m (input.Ping time) choice a none h = move (Ask a.state.keys.highest) tt a tt
+  holds_own m (input.Update time) choice a none h = holds_updated m R here (λ b may_be. move (Update (fresh_now m b.state) (m.after_next b.state.lower.session)) tt b may_be) a
   holds_own m (input.SendDatagram time body) choice a none h = move (Post (datagrams.Sent (datagram_limit a.state) true body)) tt a refl
   holds_own m (input.RecvDatagram time) choice a none h = move (Post datagrams.Taken) tt a refl
   holds_own m (input.Identifiers time given) choice a none h = move (Issue time given) tt a h

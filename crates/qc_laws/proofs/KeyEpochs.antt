@@ -1,13 +1,13 @@
 -- The epochs of the 1-RTT keys over their steps: each step leaves the epoch, or begins the next one.
 use Rattle.std.proofs.Common.{◌≡◌, ℕ, ◌≤◌, List, [], ◌∷◌, refl, ap, subst, Bool, true, false, Option, Some, None, if◌then◌else◌, arith}
-use Rattle.qc_rings.specs.Keyed.{keyed_acked, keyed_discarded, keyed_opened, keyed_sealed}
-use Rattle.qc_rings.specs.Ring.{Dropped, Ring, after_acked, after_discard, after_opened, after_sealed, has_floor, is_from}
+use Rattle.qc_rings.specs.Keyed.{keyed_acked, keyed_discarded, keyed_opened, keyed_sealed, keyed_in, keyed_updated}
+use Rattle.qc_rings.specs.Ring.{Dropped, Ring, after_acked, after_discard, after_opened, after_sealed, has_floor, is_from, after_update, may_update}
 use Rattle.qc_rings.specs.declared.which.Which.{Which}
 use Rattle.qc_rings.specs.declared.which.Which.TheVariants.{Current, Next, Previous}
 use Rattle.qc_state.specs.declared.keys.Fresh.{Fresh}
 use Rattle.qc_state.specs.declared.keys.OneRttKeys.{OneRttKeys}
-use Rattle.qc_state.specs.Keys.{epoch_with, ring_acked, ring_discarded, ring_opened, ring_used}
-use Rattle.qc_laws.specs.UpdateLaws.{Acknowledged, AllMay, Discarded, EpochsRise, Given, KeyStep, MayStep, Opened, Sealed, key_step, key_steps, sealed_by}
+use Rattle.qc_state.specs.Keys.{epoch_with, ring_acked, ring_discarded, ring_opened, ring_used, ring_updated}
+use Rattle.qc_laws.specs.UpdateLaws.{Acknowledged, AllMay, Discarded, EpochsRise, Given, KeyStep, MayStep, Opened, Sealed, key_step, key_steps, sealed_by, Updated}
 
 -- from a lower epoch on
 from_lower : (low from upto : ℕ) (ps : List (ℕ × ℕ)) → low ≤ from → EpochsRise from upto ps → EpochsRise low upto ps
@@ -53,6 +53,28 @@ module _ {H P : Type 0} where
       acked_by_test true = refl
       acked_by_test false = refl
 
+  updated_epoch : (fresh : Option (Fresh P)) (k : Option (OneRttKeys H P)) → epoch_with k ≤ 18446744073709551615 →
+      epoch_with k ≤ epoch_with (ring_updated fresh k)
+  unfolding ring_updated keyed_updated after_update
+  updated_epoch None k held = omega arith
+  updated_epoch (Some fresh) None held = omega arith
+  updated_epoch (Some fresh) (Some k) held = updated_by_test (may_update k.ring.ring)
+    where
+      updated_by_test : (b : Bool) → k.ring.ring.epoch ≤ (if b then keyed_in (after_update k.ring.ring) k.ring fresh.keys else k.ring).ring.epoch
+      updated_by_test true = grind (arith, held)
+      updated_by_test false = omega arith
+
+  updated_held : (fresh : Option (Fresh P)) (k : Option (OneRttKeys H P)) → epoch_with k ≤ 18446744073709551615 →
+      epoch_with (ring_updated fresh k) ≤ 18446744073709551615
+  unfolding ring_updated keyed_updated after_update
+  updated_held None k held = held
+  updated_held (Some fresh) None held = omega arith
+  updated_held (Some fresh) (Some k) held = held_by_test (may_update k.ring.ring)
+    where
+      held_by_test : (b : Bool) → (if b then keyed_in (after_update k.ring.ring) k.ring fresh.keys else k.ring).ring.epoch ≤ 18446744073709551615
+      held_by_test true = grind (arith, held)
+      held_by_test false = held
+
   discarded_epoch : (k : Option (OneRttKeys H P)) → epoch_with (ring_discarded k) ≡ epoch_with k
   unfolding ring_discarded keyed_discarded after_discard
   discarded_epoch None = refl
@@ -68,6 +90,7 @@ module _ {H P : Type 0} where
   step_held (Sealed n) k may held = omega (arith, sealed_epoch n k, held)
   step_held (Opened n which fresh) k may held = opened_held which n fresh k held
   step_held (Acknowledged n) k may held = omega (arith, acked_epoch n k, held)
+  step_held (Updated fresh) k may held = updated_held fresh k held
   step_held Discarded k may held = omega (arith, discarded_epoch k, held)
 
   pub steps_held : (xs : List (KeyStep H P)) (k : Option (OneRttKeys H P)) → AllMay xs k → epoch_with k ≤ 18446744073709551615 → epoch_with (key_steps xs k) ≤ 18446744073709551615
@@ -96,6 +119,11 @@ module _ {H P : Type 0} where
       let more : Option (OneRttKeys H P) = ring_acked n k in
       subst (λ (e : ℕ). EpochsRise e (epoch_with (key_steps xs more)) (sealed_by xs more)) (acked_epoch n k)
       (steps_rise xs more may.1 (step_held (Acknowledged n) k may.0 held))
+  steps_rise (Updated fresh ∷ xs) k may held =
+      let more : Option (OneRttKeys H P) = ring_updated fresh k in
+      from_lower (epoch_with k) (epoch_with more) (epoch_with (key_steps xs more)) (sealed_by xs more)
+      (updated_epoch fresh k held)
+      (steps_rise xs more may.1 (updated_held fresh k held))
   steps_rise (Discarded ∷ xs) k may held =
       let more : Option (OneRttKeys H P) = ring_discarded k in
       subst (λ (e : ℕ). EpochsRise e (epoch_with (key_steps xs more)) (sealed_by xs more)) (discarded_epoch k)

@@ -32,9 +32,9 @@ use Rattle.qc_state.specs.declared.life.Life.{Life}
 use Rattle.qc_state.specs.declared.trace.Step.{Step}
 use Rattle.qc_state.specs.Forms.{is_early, number_space}
 use Rattle.qc_state.specs.Headline.{deeds_of}
-use Rattle.qc_state.specs.Keys.{DataKeys, HandshakeKeys, NewKeys, NoKeys, epoch_in, epoch_with, failure_counted, key_acked, key_discarded, key_opened, key_used, keys_dropped, keys_given, reaches_limit, ring_of, ring_used, usage_of}
+use Rattle.qc_state.specs.Keys.{DataKeys, HandshakeKeys, NewKeys, NoKeys, epoch_in, epoch_with, failure_counted, key_acked, key_discarded, key_opened, key_used, keys_dropped, keys_given, reaches_limit, ring_of, ring_used, usage_of, key_updated}
 use Rattle.qc_state.specs.Life.{is_open, is_over}
-use Rattle.qc_state.specs.Moves.{Accept, Ack, AreNext, Ask, Call, Discard, Enter, Fail, Forget, Hand, Issue, MayMove, Move, Post, Read, Seal, Shut, Take, Tell, Unseal, Write, deeds_move, keys_move, move_to, state_move}
+use Rattle.qc_state.specs.Moves.{Accept, Ack, AreNext, Ask, Call, Discard, Enter, Fail, Forget, Hand, Issue, MayMove, Move, Post, Read, Seal, Shut, Take, Tell, Unseal, Write, deeds_move, keys_move, move_to, state_move, Update}
 use Rattle.qc_state.specs.Numbers.{next_number}
 use Rattle.qc_state.specs.Progress.{keys_behind, ring_with}
 use Rattle.qc_state.specs.Receiving.{datagram_after}
@@ -42,22 +42,23 @@ use Rattle.qc_state.specs.Run.{IsAllowed, IsStep, Run, began, called, close_afte
 use Rattle.qc_state.specs.Sending.{Choice, packet_size}
 use Rattle.qc_state.specs.Spaces.{is_space}
 use Rattle.qc_state.specs.Types.{Types, Meaning}
-use Rattle.qc_state.specs.Updating.{fresh_by, unsealed_after}
+use Rattle.qc_state.specs.Updating.{fresh_by, unsealed_after, fresh_now}
 use Rattle.qc_state.specs.Verdicts.{verdict_of}
 use Rattle.qc_state.specs.View.{View, At}
 use Rattle.qc_state.proofs.Expired.{IsTimed, holds_timeout}
-use Rattle.qc_state.proofs.KeySteps.{RingMoves, acked_moves, discarded_moves, opened_moves, still_no_ring}
+use Rattle.qc_state.proofs.KeySteps.{RingMoves, acked_moves, discarded_moves, opened_moves, still_no_ring, updated_moves}
 use Rattle.qc_state.proofs.OpenPackets.{IsBeside, given_ack, given_read, packet_beside, packet_received, unsealed_life}
 use Rattle.qc_state.proofs.PacketMoves.{IsInPacket, IsToldOf, OpenPacket}
-use Rattle.qc_state.proofs.ReceivedMoves.{AreUnused, IsOutside, IsUnread, behind_unused}
+use Rattle.qc_state.proofs.ReceivedMoves.{AreUnused, IsOutside, behind_unused}
 use Rattle.qc_state.proofs.Telling.{told_appends}
 use Rattle.qc_state.proofs.Transmitted.{IsSealable, IsSending, holds_transmit}
+use Rattle.qc_state.proofs.Updates.{holds_updated}
 use Rattle.qc_state.proofs.WhichOpened.{IsNamed, opened_named}
-use Rattle.qc_laws.specs.PieceLaws.{pieces_in}
 use Rattle.qc_laws.specs.StreamLaws.{is_of}
-use Rattle.qc_laws.specs.UpdateLaws.{Acknowledged, AllMay, AreAcksOf, AreLast, Discarded, EpochsRise, FoldsKeys, Given, KeepsEpochs, KeyStep, Opened, Sealed, acked_by, acks_told, is_unsealed, key_step, key_steps, opened_by, sealed_by, sealed_here, sealed_under, unsealed_in, unsealed_number, waits_for_answer}
+use Rattle.qc_laws.specs.UpdateLaws.{Acknowledged, AllMay, AreAcksOf, AreLast, Discarded, EpochsRise, FoldsKeys, Given, KeepsEpochs, KeyStep, Opened, Sealed, acked_by, acks_told, is_unsealed, key_step, key_steps, opened_by, sealed_by, sealed_under, unsealed_in, unsealed_number, waits_for_answer, Updated}
+use Rattle.qc_laws.proofs.KeyDeeds.{acks_append, no_pieces, read_unsealed, under_append, unread_none, unsealed_append}
 use Rattle.qc_laws.proofs.KeyEpochs.{steps_held, steps_rise}
-use Rattle.qc_laws.proofs.PieceLaws.{opened_tells, read_row, is_read}
+use Rattle.qc_laws.proofs.PieceLaws.{opened_tells, read_row}
 use Rattle.qc_laws.proofs.Receives.{IsOpened, datagram_holds}
 use Rattle.qc_laws.proofs.StreamCalls.{called_input, handed_told}
 use Rattle.qc_laws.proofs.StreamSteps.{last_append, last_of, same_since}
@@ -94,64 +95,6 @@ acks_of_append [] ms [] cs h g = g
 acks_of_append (n ∷ ns) ms (b ∷ bs) cs h g = (h.0, acks_of_append ns ms bs cs h.1 g)
 acks_of_append [] ms (b ∷ bs) cs h g = absurd h
 acks_of_append (n ∷ ns) ms [] cs h g = absurd h
-
--- ---- deeds, one list behind another
-
-under_append : (ds es : List Did) → sealed_under (ds ++ es) ≡ sealed_under ds ++ sealed_under es
-under_append [] es = refl
-under_append (did.Sealed space n epoch early fs ∷ ds) es =
-    ap (λ (l : List (ℕ × ℕ)). sealed_here space n epoch early ++ l) (under_append ds es) ∙ sym (append_assoc (sealed_here space n epoch early) (sealed_under ds) (sealed_under es))
-under_append (d ∷ ds) es = under_append ds es
-
-unsealed_append : (ds es : List Did) → unsealed_in (ds ++ es) ≡ unsealed_in ds ++ unsealed_in es
-unsealed_append [] es = refl
-unsealed_append (did.Piece space number v ∷ ds) es =
-    ap (λ (l : List ℕ). unsealed_number space number v ++ l) (unsealed_append ds es) ∙ sym (append_assoc (unsealed_number space number v) (unsealed_in ds) (unsealed_in es))
-unsealed_append (d ∷ ds) es = unsealed_append ds es
-
-acks_append : (now : Bool) (ds es : List Did) → acks_told now (ds ++ es) ≡ acks_told now ds ++ acks_told (last_of «Data» now ds) es
-acks_append now [] es = refl
-acks_append now (did.Piece space number v ∷ ds) es = acks_append (is_of «Data» space) ds es
-acks_append now (did.Gave layer.Recovery body ∷ ds) es =
-    let front : List (List ℕ) = if now then body ∷ [] else [] in
-    ap (λ (l : List (List ℕ)). front ++ l) (acks_append now ds es) ∙ sym (append_assoc front (acks_told now ds) (acks_told (last_of «Data» now ds) es))
-acks_append now (did.Gave layer.Session body ∷ ds) es = acks_append now ds es
-acks_append now (did.Gave layer.Life body ∷ ds) es = acks_append now ds es
-acks_append now (did.Gave layer.Ids body ∷ ds) es = acks_append now ds es
-acks_append now (did.Gave layer.Streams body ∷ ds) es = acks_append now ds es
-acks_append now (did.Sealed space n epoch early fs ∷ ds) es = acks_append now ds es
-acks_append now (did.Rose life ∷ ds) es = acks_append now ds es
-acks_append now (did.Lost why ∷ ds) es = acks_append now ds es
-acks_append now (did.Quiet why ∷ ds) es = acks_append now ds es
-
--- deeds that tell of no packet which came tell of none that opened
-no_pieces : (ds : List Did) → pieces_in ds ≡ [] → unsealed_in ds ≡ []
-no_pieces [] h = refl
-no_pieces (did.Piece space number v ∷ ds) h = absurd cc
-no_pieces (did.Gave to body ∷ ds) h = no_pieces ds h
-no_pieces (did.Sealed space n epoch early fs ∷ ds) h = no_pieces ds h
-no_pieces (did.Rose life ∷ ds) h = no_pieces ds h
-no_pieces (did.Lost why ∷ ds) h = no_pieces ds h
-no_pieces (did.Quiet why ∷ ds) h = no_pieces ds h
-
--- a packet with such a verdict was opened
-read_unsealed : (v : Verdict) → is_read v ≡ true → is_unsealed v ≡ true
-read_unsealed verdict.Ignored h = h
-read_unsealed verdict.Failure h = h
-read_unsealed verdict.BadBits h = h
-read_unsealed verdict.BadUpdate h = h
-read_unsealed verdict.Seen h = refl
-read_unsealed verdict.ReadForClose h = refl
-read_unsealed verdict.NumberOnly h = refl
-read_unsealed verdict.AckOnly h = refl
-read_unsealed verdict.Admitted h = refl
-
-unread_none : (space : Option SpaceId) (number : Option ℕ) (v : Verdict) → IsUnread (did.Piece space number v) → unsealed_number space number v ≡ []
-unread_none space number verdict.Ignored h = refl
-unread_none space number verdict.Failure h = refl
-unread_none space number verdict.BadBits h = refl
-unread_none space number verdict.BadUpdate h = refl
-unread_none space number _ h = absurd h
 
 -- ---- keys
 
@@ -475,6 +418,7 @@ module _ {t : Types} where
   move_within m o (Seal time f n size fs) a plain h beside may = absurd h
   move_within m o Fail a plain h beside may = absurd h
   move_within m o Discard a plain h beside may = absurd h
+  move_within m o (Update fresh session) a plain h beside may = absurd h
   move_within m o (Unseal time n which fresh session) a plain h beside may = let named : o.which ≡ Some which = h.named in absurd cc
   move_within m o (Forget Initial) a plain h beside may = still_within (is_space «Data» o.space) (Forget Initial) a refl refl refl refl refl
   move_within m o (Forget Handshake) a plain h beside may = still_within (is_space «Data» o.space) (Forget Handshake) a refl refl refl refl refl
@@ -610,6 +554,7 @@ module _ {t : Types} where
   outside_kept time (Write bytes keys session) a h = absurd h
   outside_kept time (Unseal at n which fresh session) a h = absurd h
   outside_kept time Discard a h = absurd h
+  outside_kept time (Update fresh session) a h = absurd h
   outside_kept time (Hand frame) a h = absurd h
   outside_kept time (Enter space n v) a h = absurd h
   outside_kept time (Accept at space n e g v) a h = absurd h
@@ -637,6 +582,22 @@ module _ {t : Types} where
     acked = tt;
   }
 
+  update_kept : (fresh : Option (Fresh t.P)) (session : t.S) (a : At t) → MayMove (Update fresh session) a.state → Kept a (move_to (Update fresh session) a)
+  unfolding move_to state_move keys_move deeds_move key_updated MayMove
+  update_kept fresh session a may = record {
+    since = [];
+    appended = sym (append-nil a.did);
+    steps = Updated fresh ∷ [];
+    may = λ l. (may.1, tt);
+    leads = refl;
+    last = λ l. ring_last a.state.keys (key_updated a.state.keys fresh) (updated_moves a.state.keys fresh) l;
+    sealed = refl;
+    opened = refl;
+    acks = [];
+    told = λ now. refl;
+    acked = tt;
+  }
+
   timed_kept : (x : Move t) → IsTimed x → (a : At t) → Kept a (move_to x a)
   unfolding keys_move deeds_move
   timed_kept (Seal at f n size fs) h a = absurd h
@@ -650,22 +611,24 @@ module _ {t : Types} where
   timed_kept Fail h a = absurd h
   timed_kept (Hand frame) h a = absurd h
   timed_kept Discard h a = discard_kept a
+  timed_kept (Update fresh session) h a = absurd h
   timed_kept x h a = still_kept x a refl refl refl refl (λ now. refl)
 
-  sending_kept : (x : Move t) → IsSending x → (a : At t) → Kept a (move_to x a)
+  sending_kept : (x : Move t) → IsSending x → (a : At t) → MayMove x a.state → Kept a (move_to x a)
   unfolding keys_move deeds_move
-  sending_kept (Seal at f n size fs) h a = absurd h
-  sending_kept (Tell d) h a = absurd h
-  sending_kept (Enter space n v) h a = absurd h
-  sending_kept (Accept time space n e g v) h a = absurd h
-  sending_kept (Ack space n after) h a = absurd h
-  sending_kept (Write bytes keys session) h a = absurd h
-  sending_kept (Unseal at n which fresh session) h a = absurd h
-  sending_kept Discard h a = absurd h
-  sending_kept Fail h a = absurd h
-  sending_kept (Hand frame) h a = absurd h
-  sending_kept (Forget id) h a = still_kept (Forget id) a (dropped_same a.state.keys id (ap (λ (space : SpaceId). is_space space «Data») h)) (dropped_highest a.state.keys id) refl refl (λ now. refl)
-  sending_kept x h a = still_kept x a refl refl refl refl (λ now. refl)
+  sending_kept (Seal at f n size fs) h a may = absurd h
+  sending_kept (Tell d) h a may = absurd h
+  sending_kept (Enter space n v) h a may = absurd h
+  sending_kept (Accept time space n e g v) h a may = absurd h
+  sending_kept (Ack space n after) h a may = absurd h
+  sending_kept (Write bytes keys session) h a may = absurd h
+  sending_kept (Unseal at n which fresh session) h a may = absurd h
+  sending_kept Discard h a may = absurd h
+  sending_kept (Update fresh session) h a may = update_kept fresh session a may
+  sending_kept Fail h a may = absurd h
+  sending_kept (Hand frame) h a may = absurd h
+  sending_kept (Forget id) h a may = still_kept (Forget id) a (dropped_same a.state.keys id (ap (λ (space : SpaceId). is_space space «Data») h)) (dropped_highest a.state.keys id) refl refl (λ now. refl)
+  sending_kept x h a may = still_kept x a refl refl refl refl (λ now. refl)
 
   seal_kept : (time : ℕ) (f : Form) (fs : List FrameValue) (a : At t) → IsSealable time a.state f fs → Kept a (move_to (Seal time f (next_number a.state.numbers (number_space f)) (packet_size a.state f fs) fs) (move_to (Take (number_space f) fs) a))
   unfolding move_to state_move keys_move deeds_move
@@ -694,9 +657,10 @@ module _ {t : Types} where
   unfolding IsAllowed input_after close_after keys_move deeds_move
   input_kept m (input.Datagram time remote ecn bytes) choice a may = datagram_kept m (record { time = time; remote = remote; mark = ecn }) bytes a
   input_kept m (input.Timeout time) choice a may = holds_timeout Kept kept_here kept_next (λ x h b may_be. timed_kept x h b) m time a
-  input_kept m (input.Transmit time max) choice a may = holds_transmit Kept kept_here kept_next (λ x r b h. sending_kept x r b) (λ at f fs b h. seal_kept at f fs b h) m time max choice a may
+  input_kept m (input.Transmit time max) choice a may = holds_transmit Kept kept_here kept_next (λ x r b h. sending_kept x r b h) (λ at f fs b h. seal_kept at f fs b h) m time max choice a may
   input_kept m (input.Close time code reason) choice a may = shut_kept time _ a (is_open a.state.life.state)
   input_kept m (input.Ping time) choice a may = still_kept (Ask a.state.keys.highest) a refl refl refl refl (λ now. refl)
+  input_kept m (input.Update time) choice a may = holds_updated m Kept kept_here (λ b h. update_kept (fresh_now m b.state) (m.after_next b.state.lower.session) b h) a
   input_kept m (input.SendDatagram time body) choice a may = still_kept (Post (datagrams.Sent (datagram_limit a.state) true body)) a refl refl refl refl (λ now. refl)
   input_kept m (input.RecvDatagram time) choice a may = still_kept (Post datagrams.Taken) a refl refl refl refl (λ now. refl)
   input_kept m (input.Identifiers time given) choice a may = still_kept (Issue time given) a refl refl refl refl (λ now. refl)

@@ -7,8 +7,8 @@ use Rattle.qc_base.specs.Time.{plus}
 use Rattle.qc_base.specs.declared.side.SpaceId.{SpaceId}
 use Rattle.qc_base.specs.declared.side.SpaceId.TheVariants.{Initial, Handshake, «Data»}
 use Rattle.qc_frame.specs.Frame.{FrameValue}
-use Rattle.qc_rings.specs.Keyed.{keyed_acked, keyed_discarded, keyed_opened, keyed_sealed}
-use Rattle.qc_rings.specs.Ring.{after_discard, has_floor}
+use Rattle.qc_rings.specs.Keyed.{keyed_acked, keyed_discarded, keyed_in, keyed_opened, keyed_sealed, keyed_updated}
+use Rattle.qc_rings.specs.Ring.{after_discard, after_update, has_floor, may_update}
 use Rattle.qc_rings.specs.declared.which.Which.{Which}
 use Rattle.qc_rings.specs.declared.which.Which.TheVariants.{Current, Next, Previous}
 use Rattle.qc_state.specs.declared.keys.Fresh.{Fresh}
@@ -23,9 +23,9 @@ use Rattle.qc_state.specs.declared.life.Close.{Close}
 use Rattle.qc_state.specs.declared.trace.Step.{Step}
 use Rattle.qc_state.specs.Forms.{number_space}
 use Rattle.qc_laws.specs.KeyLaws.{IsWithinLimit, KeysHold}
-use Rattle.qc_state.specs.Keys.{NewKeys, NoKeys, HandshakeKeys, DataKeys, count_one, failure_counted, key_acked, key_discarded, key_opened, key_used, keys_dropped, keys_given, plain_usage, reaches_limit, ring_acked, ring_discarded, ring_opened, ring_usage, ring_used, usage_of}
+use Rattle.qc_state.specs.Keys.{NewKeys, NoKeys, HandshakeKeys, DataKeys, count_one, failure_counted, key_acked, key_discarded, key_opened, key_updated, key_used, keys_dropped, keys_given, plain_usage, reaches_limit, ring_acked, ring_discarded, ring_may_update, ring_opened, ring_updated, ring_usage, ring_used, usage_of, with_ring}
 use Rattle.qc_state.specs.Life.{is_open}
-use Rattle.qc_state.specs.Moves.{Move, Ack, Ask, Discard, Fail, Forget, Seal, Shut, Take, Unseal, Write, keys_move, move_to, state_move, Call, Post, Issue}
+use Rattle.qc_state.specs.Moves.{Move, Ack, Ask, Discard, Fail, Forget, Seal, Shut, Take, Unseal, Update, Write, keys_move, move_to, state_move, MayMove, Call, Post, Issue}
 use Rattle.qc_state.specs.Numbers.{next_number}
 use Rattle.qc_state.specs.Run.{IsAllowed, IsStep, Run, began, called, close_after, input_after, reported, step_after, time_of, datagram_limit}
 use Rattle.qc_state.specs.Sending.{MayTransmit, packet_size, transmit_after, Choice}
@@ -35,6 +35,7 @@ use Rattle.qc_state.proofs.Expired.{IsTimed, holds_timeout}
 use Rattle.qc_state.proofs.ReceivedMoves.{AreUnused, FreshFits, IsReceived}
 use Rattle.qc_laws.proofs.Receives.{holds_datagram}
 use Rattle.qc_state.proofs.Transmitted.{IsSealable, IsSending, holds_transmit}
+use Rattle.qc_state.proofs.Updates.{holds_updated}
 use Rattle.qc_laws.proofs.StreamCalls.{called_input}
 use Rattle.qc_datagrams.specs.Steps as datagrams
 
@@ -132,6 +133,16 @@ module _ {H P : Type 0} where
       floor_by true = h
       floor_by false = h
 
+  ring_updated_within : (fresh : Option (Fresh P)) (o : Option (OneRttKeys H P)) → ring_may_update o ≡ true → IsWithinLimit (option_map ring_usage o) → IsWithinLimit (option_map ring_usage (ring_updated fresh o))
+  unfolding ring_updated keyed_updated
+  ring_updated_within None o may h = h
+  ring_updated_within (Some fresh) None may h = tt
+  ring_updated_within (Some fresh) (Some k) may h = updated_by (may_update k.ring.ring) may
+    where
+      updated_by : (b : Bool) → b ≡ true → IsWithinLimit (Some (ring_usage (with_ring k (Some fresh) (if b then keyed_in (after_update k.ring.ring) k.ring fresh.keys else k.ring))))
+      updated_by true e = omega arith
+      updated_by false e = cc
+
   -- the 1-RTT keys are others, which hold it too
   data_hold : (v : KeyGroup H P) (o : Option (OneRttKeys H P)) → IsWithinLimit (option_map ring_usage o) → KeysHold v → (other : Form) → IsWithinLimit (usage_of (record v { «data» = o }) other)
   unfolding usage_of
@@ -150,6 +161,10 @@ module _ {H P : Type 0} where
   acked_hold v Handshake n h = h
   acked_hold v Data n h = data_hold v (ring_acked n v.«data») (ring_acked_within n v.«data» (h form.OneRtt)) h
 
+  updated_hold : (v : KeyGroup H P) (fresh : Option (Fresh P)) → ring_may_update v.«data» ≡ true → KeysHold v → (other : Form) → IsWithinLimit (usage_of (key_updated v fresh) other)
+  unfolding key_updated usage_of
+  updated_hold v fresh may h = data_hold v (ring_updated fresh v.«data») (ring_updated_within fresh v.«data» may (h form.OneRtt)) h
+
   discarded_hold : (v : KeyGroup H P) → KeysHold v → (other : Form) → IsWithinLimit (usage_of (key_discarded v) other)
   unfolding key_discarded usage_of
   discarded_hold v h = data_hold v (ring_discarded v.«data») (ring_discarded_within v.«data» (h form.OneRtt)) h
@@ -160,6 +175,7 @@ module _ {t : Types} where
   IsSpare (Seal time form n size fs) s = reaches_limit 0 (usage_of s.keys form) ≡ false
   IsSpare (Write bytes keys session) s = AreUnused keys
   IsSpare (Unseal time n which fresh session) s = FreshFits which fresh
+  IsSpare (Update fresh session) s = ring_may_update s.keys.«data» ≡ true
   IsSpare _ s = Unit {0}
 
   -- what holds of the keys at one moment holds at another
@@ -180,6 +196,7 @@ module _ {t : Types} where
   move_keeps Fail a spare = λ h. failed_hold a.state.keys h
   move_keeps (Unseal time n which fresh session) a spare = λ h. opened_hold a.state.keys which n fresh spare h
   move_keeps (Ack id n r) a spare = λ h. acked_hold a.state.keys id n h
+  move_keeps (Update fresh session) a spare = λ h. updated_hold a.state.keys fresh spare h
   move_keeps Discard a spare = λ h. discarded_hold a.state.keys h
   move_keeps (Write bytes keys session) a spare = λ h. given_hold a.state.keys keys spare h
   move_keeps _ a spare = λ h. h
@@ -188,20 +205,28 @@ module _ {t : Types} where
   received_spare : (x : Move t) (s : View t) → IsReceived x → IsSpare x s
   received_spare (Write bytes keys session) s r = r
   received_spare (Unseal time n which fresh session) s r = r
+  received_spare (Update fresh session) s r = absurd r
   received_spare (Seal time form n size fs) s r = absurd r
   received_spare _ s r = tt
 
   timed_spare : (x : Move t) (s : View t) → IsTimed x → IsSpare x s
   timed_spare (Write bytes keys session) s r = absurd r
   timed_spare (Unseal time n which fresh session) s r = absurd r
+  timed_spare (Update fresh session) s r = absurd r
   timed_spare (Seal time form n size fs) s r = absurd r
   timed_spare _ s r = tt
 
-  sending_spare : (x : Move t) (s : View t) → IsSending x → IsSpare x s
-  sending_spare (Write bytes keys session) s r = absurd r
-  sending_spare (Unseal time n which fresh session) s r = absurd r
-  sending_spare (Seal time form n size fs) s r = absurd r
-  sending_spare _ s r = tt
+  sending_spare : (x : Move t) (s : View t) → IsSending x → MayMove x s → IsSpare x s
+  unfolding MayMove
+  sending_spare (Write bytes keys session) s r k = absurd r
+  sending_spare (Unseal time n which fresh session) s r k = absurd r
+  sending_spare (Update fresh session) s r k = k.1
+  sending_spare (Seal time form n size fs) s r k = absurd r
+  sending_spare _ s r k = tt
+
+  update_spare : (s : View t) (fresh : Option (Fresh t.P)) (session : t.S) → MayMove (Update fresh session) s → ring_may_update s.keys.«data» ≡ true
+  unfolding MayMove
+  update_spare s fresh session k = k.1
 
   -- a packet is taken and sealed
   packet_keeps : (time : ℕ) (form : Form) (fs : List FrameValue) (a : At t) → IsSealable time a.state form fs →
@@ -215,7 +240,7 @@ module _ {t : Types} where
   -- a transmit
   transmit_keeps : (m : Meaning t) (time asked : ℕ) (choice : Choice) (a : At t) → MayTransmit m time asked choice a → Keeps a (transmit_after m time asked choice a)
   transmit_keeps m time asked choice a may =
-      holds_transmit Keeps here next (λ x r d k. move_keeps x d (sending_spare x d.state r)) (λ at_time id fs d k. packet_keeps at_time id fs d k) m time asked choice a may
+      holds_transmit Keeps here next (λ x r d k. move_keeps x d (sending_spare x d.state r k)) (λ at_time id fs d k. packet_keeps at_time id fs d k) m time asked choice a may
 
   -- the application closes, or has closed before
   closed_by : (time : ℕ) (close : Close) (a : At t) (b : Bool) → Keeps a (if b then move_to (Shut time close) a else a)
@@ -230,6 +255,7 @@ module _ {t : Types} where
   input_keeps m (input.Transmit time max) choice a may = transmit_keeps m time max choice a may
   input_keeps m (input.Close time code reason) choice a may = closed_by time _ a (is_open a.state.life.state)
   input_keeps m (input.Ping time) choice a may = move_keeps (Ask a.state.keys.highest) a tt
+  input_keeps m (input.Update time) choice a may = holds_updated m Keeps here (λ d k. move_keeps (Update _ _) d (update_spare d.state _ _ k)) a
   input_keeps m (input.SendDatagram time body) choice a may = move_keeps (Post (datagrams.Sent (datagram_limit a.state) true body)) a tt
   input_keeps m (input.RecvDatagram time) choice a may = move_keeps (Post datagrams.Taken) a tt
   input_keeps m (input.Identifiers time given) choice a may = move_keeps (Issue time given) a tt

@@ -14,7 +14,7 @@ use Rattle.qc_state.specs.declared.life.Close.{Close}
 use Rattle.qc_state.specs.declared.life.State.TheVariants.{Drained}
 use Rattle.qc_state.specs.Forms.{number_space}
 use Rattle.qc_state.specs.Life.{is_open, is_over}
-use Rattle.qc_state.specs.Moves.{Ack, Ask, Clock, Finish, Fire, Forget, MayMove, Move, Raise, ReportConnected, ReportDrained, ReportLost, ReportReady, ReportNotice, ReportNotices, Seal, Shut, Spend, Take, move_to, Call, ReportStream, ReportStreams, Tell, Post, ReportHeard, ReportAllHeard, Issue, Learn}
+use Rattle.qc_state.specs.Moves.{Ack, Ask, Clock, Finish, Fire, Forget, MayMove, Move, Raise, ReportConnected, ReportDrained, ReportLost, ReportReady, ReportNotice, ReportNotices, Seal, Shut, Spend, Take, move_to, Call, ReportStream, ReportStreams, Tell, Post, ReportHeard, ReportAllHeard, Issue, Learn, Update}
 use Rattle.qc_state.specs.Numbers.{next_number}
 use Rattle.qc_state.specs.Receiving.{datagram_after}
 use Rattle.qc_state.specs.Recovering.{fired_by, settled_by}
@@ -34,6 +34,9 @@ use Rattle.qc_laws.proofs.StreamCalls.{called_input}
 use Rattle.qc_state.specs.declared.deeds.Did.{Did}
 use Rattle.qc_state.specs.declared.deeds.Did.TheVariants as did
 use Rattle.qc_state.specs.declared.deeds.Layer.TheVariants as layer
+use Rattle.qc_state.specs.Updating.{fresh_now}
+use Rattle.qc_state.proofs.Tried.{holds_tried}
+use Rattle.qc_state.proofs.Updates.{holds_updated}
 use Rattle.qc_frame.specs.declared.frames.FrameOf.TheVariants as frames
 use Rattle.qc_laws.specs.StreamsLaws.{is_streams_call}
 use Rattle.qc_datagrams.specs.Steps as datagrams
@@ -235,6 +238,7 @@ is_called (input.Timeout time) = false
 is_called (input.Transmit time max) = false
 is_called (input.Close time code reason) = false
 is_called (input.Ping time) = false
+is_called (input.Update time) = false
 is_called _ = true
 
 -- if it is none, it is none of the streams
@@ -244,6 +248,7 @@ uncalled_streams (input.Timeout time) h = refl
 uncalled_streams (input.Transmit time max) h = refl
 uncalled_streams (input.Close time code reason) h = refl
 uncalled_streams (input.Ping time) h = refl
+uncalled_streams (input.Update time) h = refl
 uncalled_streams _ h = cc
 
 -- a move is no such call; none is that an input makes which is none itself
@@ -321,10 +326,12 @@ module _ {t : Types} (m : Meaning t) (R : At t → At t → Type 0) (here : (a :
       (λ x e b may. move x b (expiry_known m x b.state e) (expiry_uncalled x e) (expiry_unacked x e) may) time a
   known_packets (input.Transmit time max) choice a none h =
       transmit_told m R here next (λ x r b may. move x b (sending_known m x b.state r) (sending_uncalled x r) (sending_unacked x r) may)
+      (λ f b. holds_tried m R here (λ c may_be. move (Update _ _) c tt tt tt may_be) f b)
       (λ at_time size b. move (Spend _) b (record { time = at_time; size = size; is = refl }) tt tt tt)
       (λ at_time batch b. move (Finish batch.total _) b (record { time = at_time; bytes = batch.total; last = batch.last; is = refl }) tt tt tt) seal time max choice a h
   known_packets (input.Close time code reason) choice a none h = closed_by time _ a _ refl
   known_packets (input.Ping time) choice a none h = move (Ask a.state.keys.highest) a tt tt tt tt
+  known_packets (input.Update time) choice a none h = holds_updated m R here (λ b may_be. move (Update (fresh_now m b.state) (m.after_next b.state.lower.session)) b tt tt tt may_be) a
   known_packets _ choice a none h = cc
 
 -- what holds of each move that is known so and is no such call holds of an input that is none
@@ -347,6 +354,7 @@ module _ {t : Types} (m : Meaning t) (R : At t → At t → Type 0) (here : (a :
   known_calls (input.Transmit time max) choice a h = other (input.Transmit time max) choice a refl h
   known_calls (input.Close time code reason) choice a h = other (input.Close time code reason) choice a refl h
   known_calls (input.Ping time) choice a h = other (input.Ping time) choice a refl h
+  known_calls (input.Update time) choice a h = other (input.Update time) choice a refl h
   known_calls (input.SendDatagram time body) choice a h = move (Post (datagrams.Sent (datagram_limit a.state) true body)) a tt tt refl
   known_calls (input.RecvDatagram time) choice a h = move (Post datagrams.Taken) a tt tt refl
   known_calls (input.Identifiers time given) choice a h = move (Issue time given) a tt tt h

@@ -132,6 +132,7 @@ module _ {t : Types} where
   input_stays m (input.Transmit time max) choice a may = other_stays m (input.Transmit time max) choice a refl may
   input_stays m (input.Close time code reason) choice a may = other_stays m (input.Close time code reason) choice a refl may
   input_stays m (input.Ping time) choice a may = other_stays m (input.Ping time) choice a refl may
+  input_stays m (input.Update time) choice a may = other_stays m (input.Update time) choice a refl may
   input_stays m (input.SendDatagram time body) choice a may = refl
   input_stays m (input.RecvDatagram time) choice a may = refl
   input_stays m (input.Identifiers time ids) choice a may = refl

@@ -88,5 +88,11 @@ pub mod ProbesSealed
 pub mod SealedDatagrams
 pub mod SealRuns
 pub mod FieldsKept
+pub mod KeyDeeds
 pub mod KeyEpochs
 pub mod KeysFold
+pub mod Ledgers
+pub mod LedgerMoves
+pub mod Mirrors
+pub mod KeysFit
+pub mod RunsFit

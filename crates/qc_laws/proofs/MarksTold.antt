@@ -30,7 +30,7 @@ use Rattle.qc_state.specs.Acks.{is_ack, told_counts}
 use Rattle.qc_state.specs.Forms.{number_space}
 use Rattle.qc_state.specs.Life.{is_open, is_over}
 use Rattle.qc_laws.specs.MarkLaws.{AcksTell, DeedsTell, EachTold, SealsTold, StepsTell, Tally, carried_mark, nothing_tallied, tally_accepted, tally_behind, tally_judged, tally_of, tally_since, tally_told}
-use Rattle.qc_state.specs.Moves.{Probe, Move, Clock, Ask, Take, Seal, Forget, Enter, Expect, Fail, Accept, Fix, Hear, Ack, Fire, Arm, Pace, Release, Begin, Skip, Come, Read, Write, Ready, Token, Learn, Want, Confirm, Establish, Tell, PeerClosesToo, PeerCloses, Owe, Shut, Raise, Give, Say, Finish, ReportReady, ReportConnected, ReportLost, ReportNotice, ReportNotices, ReportDrained, accepts, enters, state_move, move_to, deeds_move, waiting_move, numbers_move, keys_move, life_move, MayMove, IsTold, told, Hand, Call, ReportStream, ReportStreams, told_to_streams, Post, ReportHeard, ReportAllHeard, Insert, Switch, Retire, Issue, Outlive, Hold, Spend, Discard, Unseal}
+use Rattle.qc_state.specs.Moves.{Probe, Move, Clock, Ask, Take, Seal, Forget, Enter, Expect, Fail, Accept, Fix, Hear, Ack, Fire, Arm, Pace, Release, Begin, Skip, Come, Read, Write, Ready, Token, Learn, Want, Confirm, Establish, Tell, PeerClosesToo, PeerCloses, Owe, Shut, Raise, Give, Say, Finish, ReportReady, ReportConnected, ReportLost, ReportNotice, ReportNotices, ReportDrained, accepts, enters, state_move, move_to, deeds_move, waiting_move, numbers_move, keys_move, life_move, MayMove, IsTold, told, Hand, Call, ReportStream, ReportStreams, told_to_streams, Post, ReportHeard, ReportAllHeard, Insert, Switch, Retire, Issue, Outlive, Hold, Spend, Discard, Unseal, Update}
 use Rattle.qc_state.specs.Numbers.{next_number}
 use Rattle.qc_state.specs.Offers.{packet_begun}
 use Rattle.qc_state.proofs.Probed.{begun_holds}
@@ -41,6 +41,8 @@ use Rattle.qc_state.specs.Spaces.{space_of, with_space, is_space}
 use Rattle.qc_state.specs.Types.{Types, Meaning}
 use Rattle.qc_state.specs.View.{View, At}
 use Rattle.qc_state.specs.Waiting.{done_asked, ping_asked, waiting_without, close_begun, counts_begun, mark_counted, packet_told, packets_lost, lost_in, packets_acked, acked_in, fired_in, probes_added, probe_spent, frames_again, all_again, came_in, packet_came, crypto_written, nothing_left, space_left, released, ack_released, bundle_next}
+use Rattle.qc_state.specs.Updating.{fresh_now}
+use Rattle.qc_state.proofs.Updates.{holds_updated}
 use Rattle.qc_state.proofs.Expired.{IsTimed, holds_timeout}
 use Rattle.qc_laws.proofs.MarksKept.{acked_keeps, all_again_keeps, carries_tells, lost_keeps, without_all_keeps}
 use Rattle.qc_state.proofs.OpenPackets.{holds_packet, packet_received}
@@ -318,6 +320,7 @@ module _ {t : Types} where
   counted_move id mark (Enter space n v) a h k = plain_counted id mark (Enter space n v) _ a refl (λ y. tt) (λ y. judged_same id mark (Some space) v y k) refl
   counted_move id mark Fail a h k = silent_counted id mark Fail a refl refl
   counted_move id mark (Unseal time n which fresh session) a h k = silent_counted id mark (Unseal time n which fresh session) a refl refl
+  counted_move id mark (Update fresh session) a h k = silent_counted id mark (Update fresh session) a refl refl
   counted_move id mark Discard a h k = silent_counted id mark Discard a refl refl
   counted_move id mark (Accept time space n e g v) a h k = accept_counted id mark (Accept time space n e g v) space n v _ _ g.mark a refl refl k.0 k.1
   counted_move id mark (Fix cid) a h k = silent_counted id mark (Fix cid) a refl refl
@@ -449,6 +452,7 @@ module _ {t : Types} where
   counted_input id m (input.Transmit time max) choice a h = counted_transmit id m time max choice a h
   counted_input id m (input.Close time code reason) choice a h = closed_by id time _ a _ refl
   counted_input id m (input.Ping time) choice a h = counted_move id None (Ask a.state.keys.highest) a tt tt
+  counted_input id m (input.Update time) choice a h = holds_updated m (Counted id None) (counted_here id None) (λ b may. counted_move id None (Update (fresh_now m b.state) (m.after_next b.state.lower.session)) b may tt) a
   counted_input id m (input.SendDatagram time body) choice a h = counted_move id None (Post (datagrams.Sent (datagram_limit a.state) true body)) a refl tt
   counted_input id m (input.RecvDatagram time) choice a h = counted_move id None (Post datagrams.Taken) a refl tt
   counted_input id m (input.Identifiers time given) choice a h = counted_move id None (Issue time given) a h tt

@@ -3,7 +3,7 @@ use Rattle.std.proofs.Common.{◌≡◌, ℕ, [], refl, ap, ◌∙◌, false}
 use Rattle.qc_state.specs.declared.input.Input.{Input}
 use Rattle.qc_state.specs.declared.trace.Step.{Step}
 use Rattle.qc_state.specs.Headline.{is_datagram}
-use Rattle.qc_state.specs.Moves.{Probe, Move, Arm, Ask, Begin, Finish, Fire, Forget, Give, Pace, Raise, Release, Say, Seal, Shut, Skip, Take, MayMove, deeds_move, move_to, Call, Post, Issue, Outlive, Want, Hold, Spend, Discard}
+use Rattle.qc_state.specs.Moves.{Probe, Move, Arm, Ask, Begin, Finish, Fire, Forget, Give, Pace, Raise, Release, Say, Seal, Shut, Skip, Take, MayMove, deeds_move, move_to, Call, Post, Issue, Outlive, Want, Hold, Spend, Discard, Update}
 use Rattle.qc_laws.specs.PieceLaws.{given_in, pieces_in}
 use Rattle.qc_state.specs.Run.{IsStep, began, called, time_of}
 use Rattle.qc_state.specs.Types.{Types, Meaning}
@@ -22,6 +22,7 @@ module _ {t : Types} where
   own_quiet (Arm at) r a may = gives_move [] (Arm at) a refl refl
   own_quiet Pace r a may = gives_move [] Pace a refl refl
   own_quiet Discard r a may = gives_move [] Discard a refl refl
+  own_quiet (Update fresh session) r a may = gives_move [] (Update fresh session) a refl refl
   own_quiet Release r a may = gives_move [] Release a refl refl
   own_quiet (Begin id opens) r a may = gives_move [] (Begin id opens) a refl refl
   own_quiet Skip r a may = gives_move [] Skip a refl refl

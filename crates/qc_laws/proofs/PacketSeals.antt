@@ -29,7 +29,8 @@ use Rattle.qc_state.specs.Draws.{bit}
 use Rattle.qc_state.specs.Forms.{is_early, is_one_rtt, number_space}
 use Rattle.qc_state.specs.Keys.{epoch_in, epoch_with, has_keys_for, header_key, packet_key, phase_now, phase_with}
 use Rattle.qc_state.specs.Numbers.{acked_number, next_number}
-use Rattle.qc_state.specs.Sending.{Carries, Going, MayFollow, Sent, batch_grown, batch_opened, begun_after, begun_batch, begun_view, fills_up, flips_now, header_in, is_key_nearly_used_up, least_size, packet_after, packet_bytes, packet_size, padding_in, room_in, room_of, sealed_with, spin_now}
+use Rattle.qc_state.specs.Batches.{batch_grown, batch_opened}
+use Rattle.qc_state.specs.Sending.{Carries, Going, MayFollow, Sent, begun_after, begun_batch, begun_view, fills_up, flips_now, header_in, is_key_nearly_used_up, least_size, packet_after, packet_bytes, packet_size, padding_in, room_in, room_of, sealed_with, spin_now}
 use Rattle.qc_state.specs.Setup.{behind_spin, takes_grease}
 use Rattle.qc_state.specs.Spaces.{space_of}
 use Rattle.qc_state.specs.Types.{Types, Meaning}
@@ -40,7 +41,7 @@ use Rattle.qc_laws.specs.SealLaws.{HasFields, IsSealedAs, header_of, spelled_num
 use Rattle.qc_laws.proofs.BatchSizes.{JoinsSo, OpensSo, joins_so, opens_so}
 use Rattle.qc_laws.proofs.FramesFit.{carried_fit}
 use Rattle.qc_laws.proofs.PacketBytes.{number_fits, number_some, sealed_size}
-use Rattle.qc_laws.proofs.SealingKept.{SealsAlike, alike_next, begun_alike}
+use Rattle.qc_laws.proofs.SealingKept.{SealsBy, begun_alike, by_alike}
 
 first_of_both : (a b : Bool) → (a && b) ≡ true → a ≡ true
 first_of_both true b h = refl
@@ -120,7 +121,7 @@ module _ {t : Types} where
   numbered v form.OneRtt = number_some (number_of (next_number v.numbers «Data») (acked_number v.numbers «Data»))
 
   -- the header of a packet is the one that the view gives in which its transmit began
-  header_is : (s v : View t) (f : Form) → SealsAlike s v → header_in v f ≡ header_of s f (spin_now v) (next_number v.numbers (number_space f))
+  header_is : (s v : View t) (f : Form) → SealsBy s v → header_in v f ≡ header_of s f (spin_now v) (epoch_in v.keys f) (next_number v.numbers (number_space f))
   unfolding acked_number next_number phase_now epoch_in
   header_is s v form.Initial alike =
       let fixed : v.setup.fixed ≡ s.setup.fixed = alike.fixed in
@@ -135,20 +136,20 @@ module _ {t : Types} where
       let n : ℕ = v.numbers.spaces.application.next in
       λ i. header.Long long.ZeroRtt (alike.cid i) (fixed i).local_cid (number_of n (min (alike.acked «Data» i) n)) (fixed i).version
   header_is s v form.OneRtt alike =
-      let phase : phase_with v.keys.«data» ≡ phase_of (epoch_with s.keys.«data») = phase_is v.keys.«data» ∙ ap phase_of (alike.epochs form.OneRtt) in
+      let phase : phase_with v.keys.«data» ≡ phase_of (epoch_with v.keys.«data») = phase_is v.keys.«data» in
       let n : ℕ = v.numbers.spaces.application.next in
       λ i. header.Short (spin_now v) (phase i) (alike.cid i) (number_of n (min (alike.acked «Data» i) n))
 
   -- it is read
-  readable : (s : View t) (f : Form) (spin grease : Bool) (n : ℕ) → HasFields s → header_len (header_of s f spin n) ≤ 16383 → IsReadable (length s.paths.current.remote_cid) (s.setup.fixed.version ∷ []) grease (header_of s f spin n)
-  readable s form.Initial spin grease n fields small =
+  readable : (s : View t) (f : Form) (spin grease : Bool) (epoch n : ℕ) → HasFields s → header_len (header_of s f spin epoch n) ≤ 16383 → IsReadable (length s.paths.current.remote_cid) (s.setup.fixed.version ∷ []) grease (header_of s f spin epoch n)
+  readable s form.Initial spin grease epoch n fields small =
       let h : InitialHeader = record { dst_cid = s.paths.current.remote_cid; src_cid = s.setup.fixed.local_cid; token = s.setup.initial_token; number = spelled_number s form.Initial n; version = s.setup.fixed.version } in
       (record { dst = fields.ids.dst; src = fields.ids.src; number = number_fits n _; version = fields.version }, omega (arith, small, token_within h), known_alone s.setup.fixed.version fields.versioned)
-  readable s form.Handshake spin grease n fields small =
+  readable s form.Handshake spin grease epoch n fields small =
       (record { dst = fields.ids.dst; src = fields.ids.src; number = number_fits n _; version = fields.version }, known_alone s.setup.fixed.version fields.versioned)
-  readable s form.Early spin grease n fields small =
+  readable s form.Early spin grease epoch n fields small =
       (record { dst = fields.ids.dst; src = fields.ids.src; number = number_fits n _; version = fields.version }, known_alone s.setup.fixed.version fields.versioned)
-  readable s form.OneRtt spin grease n fields small = (refl, number_fits n _)
+  readable s form.OneRtt spin grease epoch n fields small = (refl, number_fits n _)
 
   short_form : (v : View t) (f : Form) → is_short (header_in v f) ≡ true → is_one_rtt f ≡ true
   short_form v form.Initial h = cc
@@ -165,16 +166,16 @@ module _ {t : Types} where
   spins_so v h = rw h refl
 
   -- such a packet can be told apart
-  pub can_arrive : (s v : View t) (f : Form) (fs : List FrameValue) (rest : List ℕ) → SealsAlike s v → HasFields s → packet_size v f fs ≤ 16383 → least_size v f ≤ packet_size v f fs → (is_one_rtt f ≡ true → rest ≡ []) →
+  pub can_arrive : (s v : View t) (f : Form) (fs : List FrameValue) (rest : List ℕ) → SealsBy s v → HasFields s → packet_size v f fs ≤ 16383 → least_size v f ≤ packet_size v f fs → (is_one_rtt f ≡ true → rest ≡ []) →
       CanArrive (length s.paths.current.remote_cid) (s.setup.fixed.version ∷ []) (takes_grease s.setup.peer) (flips_now v f) (header_in v f) (frames_spelling fs) rest
   unfolding packet_size least_size min_size_of
   can_arrive s v f fs rest alike fields small enough last =
-      let same : header_in v f ≡ header_of s f (spin_now v) (next_number v.numbers (number_space f)) = header_is s v f alike in
+      let same : header_in v f ≡ header_of s f (spin_now v) (epoch_in v.keys f) (next_number v.numbers (number_space f)) = header_is s v f alike in
       let short : header_len (header_in v f) ≤ 16383 = omega (arith, small) in
       record {
         greased = λ e. sym (ap takes_grease alike.peer) ∙ flips_taken v f e;
         readable = subst (λ (h : Header). IsReadable (length s.paths.current.remote_cid) (s.setup.fixed.version ∷ []) (takes_grease s.setup.peer) h) (sym same)
-            (readable s f (spin_now v) (takes_grease s.setup.peer) (next_number v.numbers (number_space f)) fields (subst (λ (h : Header). header_len h ≤ 16383) same short));
+            (readable s f (spin_now v) (takes_grease s.setup.peer) (epoch_in v.keys f) (next_number v.numbers (number_space f)) fields (subst (λ (h : Header). header_len h ≤ 16383) same short));
         numbered = numbered v f;
         sample = omega (arith, enough);
         length_field = λ e. omega (arith, small, number_within v f);
@@ -193,16 +194,15 @@ module _ {t : Types} where
       ap (λ (o : Option t.H). sealed_with m o (packet_key v.keys f) (flips_now v f) (header_in v f) (next_number v.numbers (number_space f)) (frames_spelling fs)) k.is_mask
       ∙ ap (λ (o : Option t.P). sealed_with m (Some k.mask) o (flips_now v f) (header_in v f) (next_number v.numbers (number_space f)) (frames_spelling fs)) k.is_sealer
 
-  pub is_sealed : (m : Meaning t) (s v : View t) (f : Form) (fs : List FrameValue) (k : HasKeys v.keys f) → SealsAlike s v → (HasFields s → AllFit fs) →
+  pub is_sealed : (m : Meaning t) (s v : View t) (f : Form) (fs : List FrameValue) (k : HasKeys v.keys f) → SealsBy s v → (HasFields s → AllFit fs) →
       IsSealedAs m s (number_space f) (next_number v.numbers (number_space f)) (epoch_in v.keys f) (is_early f) fs (as_sealed m k.mask k.sealer v f fs)
   is_sealed m s v f fs k alike fit = record {
     form = f;
     in_space = refl;
     numbered = refl;
-    of_epoch = alike.epochs f;
     zero_rtt = refl;
     masked = ap (option_map m.mask) (sym (alike.masks f) ∙ k.is_mask);
-    sealer = sym (alike.sealers f) ∙ k.is_sealer;
+    sealer = alike.keyed f k.sealer k.is_sealer;
     spin = spin_now v;
     header = header_is s v f alike;
     spins = λ e. spins_so v (ap (λ (x : Fixed). x.spins) alike.fixed ∙ e) ∙ alike.spin;
@@ -238,14 +238,14 @@ module _ {t : Types} where
   sized_by m v f fs h k size = sealed_size (m.mask h) (m.seal k) (flips_now v f) (header_in v f) (next_number v.numbers (number_space f)) (frames_spelling fs) (λ header. size k (next_number v.numbers (number_space f)) header (frames_spelling fs))
 
   pub seals_packet : (m : Meaning t) → ((key : t.P) (number : ℕ) (header plain : List ℕ) → length (m.seal key number header plain) ≡ length plain + 16) → (time : ℕ) (s : View t) (p : Sent) (g : Going t) →
-      SealsAlike s g.now.state → MayFollow m time g.now.state g.batch p → SealsPacket m s time p g
+      SealsBy s g.now.state → MayFollow m time g.now.state g.batch p → SealsPacket m s time p g
   unfolding packet_after batch_grown
   seals_packet m size time s p g alike may =
       let id : SpaceId = number_space p.form in
       let v : View t = view_of p g in
       let b : Batch = begun_batch g.now.state id p.opens g.batch in
       let same : v ≡ begun_view g.now.state id p.opens = begun_same id p.opens g.now in
-      let here : SealsAlike s v = alike_next s g.now.state v alike (begun_alike id p.opens g.now) in
+      let here : SealsBy s v = by_alike s g.now.state v alike (begun_alike id p.opens g.now) in
       let keyed : has_keys_for v.keys p.form ≡ true = subst (λ (k : KeyGroup t.H t.P). has_keys_for k p.form ≡ true) (sym (begun_keys id p.opens g.now)) (begins_keyed m time g.now.state g.batch p.form p.opens may.begins) in
       let k : HasKeys v.keys p.form = keys_there v.keys p.form keyed in
       let carries : Carries g.batch.closing time v p.form (room_in b v p.form) p.frames = subst (λ (x : View t). Carries g.batch.closing time x p.form (room_in b x p.form) p.frames) (sym same) may.carries in

@@ -36,14 +36,15 @@ use Rattle.qc_state.specs.declared.paths.Paths.{Paths}
 use Rattle.qc_state.specs.declared.trace.Step.{Step}
 use Rattle.qc_state.specs.Forms.{number_space}
 use Rattle.qc_state.specs.Life.{is_open}
-use Rattle.qc_state.specs.Moves.{Accept, Ack, Arm, Come, Confirm, PeerClosesToo, Enter, Establish, Expect, Fail, Fire, Fix, Forget, Give, Hear, Learn, PeerCloses, MayMove, Move, Owe, Pace, Raise, Read, Ready, Release, Say, Seal, Shut, Take, Tell, Token, Want, Write, armed_after, armed_with, deeds_move, move_to, paths_move, state_move, told, Begin, Skip, Hand, told_to_streams, Insert, Switch, Retire, Outlive, Probe, Spend, Discard, Unseal}
+use Rattle.qc_state.specs.Moves.{Accept, Ack, Arm, Come, Confirm, PeerClosesToo, Enter, Establish, Expect, Fail, Fire, Fix, Forget, Give, Hear, Learn, PeerCloses, MayMove, Move, Owe, Pace, Raise, Read, Ready, Release, Say, Seal, Shut, Take, Tell, Token, Want, Write, armed_after, armed_with, deeds_move, move_to, paths_move, state_move, told, Begin, Skip, Hand, told_to_streams, Insert, Switch, Retire, Outlive, Probe, Spend, Discard, Unseal, Update}
 use Rattle.qc_state.specs.Numbers.{next_number, received_number}
 use Rattle.qc_state.specs.Headline.{deeds_of}
 use Rattle.qc_laws.specs.PathLaws.{IsLimited, PathHolds, all_from, bytes_from, is_handshake_admitted}
 use Rattle.qc_state.specs.Paths.{held_size, is_blocked, is_blocked_behind, most_on, path_accepted, path_capped, path_probed, path_kept, path_quiet, path_received, path_sent, path_spun, peer_fixed, same_address, spun_by, path_named}
 use Rattle.qc_state.specs.Receiving.{counted_after, cut_of, datagram_after, first_after, first_token, heard_after, is_readable, lets_in, pieces_after}
 use Rattle.qc_state.specs.Run.{IsAllowed, IsStep, Run, began, called, close_after, input_after, reported, step_after, time_of, called_all}
-use Rattle.qc_state.specs.Sending.{MayFollow, MayStand, MayTransmit, batch_grown, batch_opened, begun_after, begun_batch, drops_initial, initial_left, next_segment, packet_after, packet_size, spared_after, transmit_after, Choice, Sent, Ending, Went, Held, Hushed, Probed, Died, MayProbe, flown_after, is_flown, is_key_nearly_used_up, probe_begun_after, probe_frames, probe_sealed, probed_after, sealed_in, spent_after, ending_after, packets_after, Going, going_from, MayAll, MayEnd, handshake_left, finished_after, gone_after, held_after, told_sent}
+use Rattle.qc_state.specs.Batches.{batch_grown, batch_opened, next_segment}
+use Rattle.qc_state.specs.Sending.{MayFollow, MayStand, MayTransmit, begun_after, begun_batch, drops_initial, initial_left, packet_after, packet_size, spared_after, transmit_after, Choice, Sent, Ending, Went, Held, Hushed, Probed, Died, MayProbe, flown_after, is_flown, is_key_nearly_used_up, probe_begun_after, probe_frames, probe_sealed, probed_after, sealed_in, spent_after, ending_after, packets_after, Going, going_from, MayAll, MayEnd, handshake_left, finished_after, gone_after, held_after, told_sent, going_tried}
 use Rattle.qc_state.specs.Spaces.{space_of}
 use Rattle.qc_state.specs.Stopping.{given_after, key_limit_error, killed_after, stopped_after}
 use Rattle.qc_state.specs.Setup.{is_first_awaited}
@@ -56,13 +57,16 @@ use Rattle.qc_laws.proofs.Receives.{holds_pieces}
 use Rattle.qc_state.proofs.Quieted.{held_paths, quiet_current}
 use Rattle.qc_state.specs.declared.deeds.Quiet.{Quiet}
 use Rattle.qc_state.specs.declared.transmit.Batch.{Batch}
-use Rattle.qc_state.proofs.Transmitted.{IsPacketMove, IsSealable, free_behind, holds_packets}
+use Rattle.qc_state.proofs.Transmitted.{IsPacketMove, IsSealable, free_behind, holds_packets, holds_packet, beginning_packet}
 use Rattle.qc_state.proofs.Batches.{opened_filled, opened_most, opened_total}
 use Rattle.qc_state.proofs.Begun.{begun_same}
 use Rattle.qc_state.proofs.Probing.{due_validated, probe_paths, sealed_validated}
 use Rattle.qc_laws.proofs.StreamCalls.{called_input}
 use Rattle.qc_state.proofs.Telling.{told_appends}
 use Rattle.qc_state.specs.Streams.{MayRead, calls_of}
+use Rattle.qc_state.specs.Updating.{updated_after, tried_after}
+use Rattle.qc_state.proofs.Updates.{holds_updated}
+use Rattle.qc_state.proofs.Tried.{holds_tried, tried_keeps, tried_same}
 
 -- the path in use holds, from some paths to others
 abbrev KeepsPath : {C : Type 0} → (came : ℕ) → List Did → Paths C → Paths C → Type 0
@@ -536,6 +540,7 @@ module _ {t : Types} where
   unfolding move_to state_move paths_move path_kept
   packet_move (Begin id opens) r a h = rests_here a
   packet_move Skip r a h = rests_here a
+  packet_move (Update fresh session) r a h = rests_here a
   packet_move (Spend tokens) r a h = (kept_still a.state.paths _, refl)
   packet_move (Arm due) r a h = rests_here a
   packet_move _ r a h = absurd r
@@ -547,6 +552,13 @@ module _ {t : Types} where
 
   path_packets : (m : Meaning t) (time : ℕ) (ps : List Sent) (g : Going t) → MayAll m time g ps → Rests g.now (packets_after m time ps g).now
   path_packets m time ps g may = holds_packets Rests rests_here rests_next packet_move packet_sealed m time ps g may
+
+  path_packet : (m : Meaning t) (time : ℕ) (p : Sent) (g : Going t) → MayFollow m time g.now.state g.batch p → Rests g.now (packet_after m time p g).now
+  path_packet m time p g may = holds_packet Rests rests_here rests_next (λ x r a h. packet_move x (beginning_packet x r) a h) packet_sealed m time p g may
+
+  -- and with an update that is tried for one
+  path_tried : (m : Meaning t) (f : Form) (a : At t) → Rests a (tried_after m f a)
+  path_tried m f a = holds_tried m Rests rests_here (λ b may. packet_move (Update _ _) tt b may) f a
 
   -- a packet that is taken, sealed and counted leaves the address and the counts
   flown_still : (m : Meaning t) (time size : ℕ) (b : Bool) (a : At t) → Still a.state.paths (flown_after m time size b a).state.paths
@@ -578,8 +590,10 @@ module _ {t : Types} where
   within : (m : Meaning t) (time : ℕ) (ps : List Sent) (g : Going t) → IsWithin g.now.state.paths g.batch → MayAll m time g ps → IsWithin (packets_after m time ps g).now.state.paths (packets_after m time ps g).batch
   within m time [] g h may = h
   within m time (p ∷ ps) g h may =
-      let k : Going t = packet_after m time p g in
-      within m time ps k (rests_within g.now k.now k.batch (path_packets m time (p ∷ []) g (may.0, tt)) (packet_within m time p g may.0 h)) may.1
+      let f : Going t = going_tried m p.form g in
+      let k : Going t = packet_after m time p f in
+      let tried : IsWithin f.now.state.paths f.batch = rests_within g.now f.now g.batch (path_tried m p.form g.now) h in
+      within m time ps k (rests_within f.now k.now k.batch (path_packet m time p f may.0) (packet_within m time p f may.0 tried)) may.1
 
   begun_all_within : (asked : ℕ) (a : At t) → IsWithin a.state.paths (going_from asked a).batch
   begun_all_within asked a = record { segment = λ not_yet. first_most a.state.paths.current not_yet; capacity = λ not_yet. omega arith; filled = omega arith; room = begun_room a.state.paths }
@@ -619,8 +633,12 @@ module _ {t : Types} where
       subst (λ (p : Paths t.C). KeepsPath 0 ds p (finished_after m time b c).state.paths) same
       (path_finished m time b ds c (subst (λ (p : Paths t.C). HasRoom p b.total) (sym same) (total_room a.state.paths b h)))
   path_ending m time (Hushed quiet) b ds a h may = subst (λ (p : Paths t.C). KeepsPath 0 ds a.state.paths p) (sym (path_hushed m time quiet b a)) (quiet_path 0 ds a.state.paths quiet)
-  path_ending m time (Probed quiet size) b ds a h may = path_probe m time size quiet b ds a may.0
-  path_ending m time (Died why) b ds a h may = subst (λ (p : Paths t.C). KeepsPath 0 ds a.state.paths p) (sym (path_killed why a)) (quiet_path 0 ds a.state.paths Killed)
+  path_ending m time (Probed quiet size) b ds a h may =
+      let c : At t = tried_after m form.OneRtt a in
+      subst (λ (p : Paths t.C). KeepsPath 0 ds p (probed_after m time size quiet b c).state.paths) (tried_keeps m form.OneRtt a).paths
+      (path_probe m time size quiet b ds c (subst (λ (s : View t). MayProbe m time s b quiet size) (sym (tried_same m form.OneRtt a)) may.0))
+  path_ending m time (Died f why) b ds a h may =
+      subst (λ (p : Paths t.C). KeepsPath 0 ds a.state.paths p) (sym (path_killed why (tried_after m f a) ∙ ap (λ (p : Paths t.C). path_quiet p Killed) (tried_keeps m f a).paths)) (quiet_path 0 ds a.state.paths Killed)
 
   path_transmit : (m : Meaning t) (time asked : ℕ) (choice : Choice) (ds : List Did) (a : At t) → MayTransmit m time asked choice a → KeepsPath 0 ds a.state.paths (transmit_after m time asked choice a).state.paths
   unfolding MayTransmit transmit_after gone_after
@@ -670,6 +688,10 @@ module _ {t : Types} where
   path_input m (input.Transmit time max) choice s may = path_transmit m time max choice _ (at s []) may
   path_input m (input.Close time code reason) choice s may = path_close time _ _ (at s []) (is_open s.life.state)
   path_input m (input.Ping time) choice s may = unchanged 0 _ s.paths
+  path_input m (input.Update time) choice s may =
+      let r : At t = updated_after m (at s []) in
+      let same : r.state.paths ≡ s.paths = holds_updated m (λ (a b : At t). b.state.paths ≡ a.state.paths) (λ a. refl) (λ b may_be. refl) (at s []) in
+      subst (λ (p : Paths t.C). KeepsPath 0 r.did s.paths p) (sym same) (unchanged 0 r.did s.paths)
   path_input m (input.SendDatagram time body) choice s may = unchanged 0 _ s.paths
   path_input m (input.RecvDatagram time) choice s may = unchanged 0 _ s.paths
   path_input m (input.Identifiers time given) choice s may = unchanged 0 _ s.paths

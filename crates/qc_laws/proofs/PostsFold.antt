@@ -31,7 +31,7 @@ use Rattle.qc_state.specs.Flight.{flown_packet}
 use Rattle.qc_state.specs.Forms.{number_space}
 use Rattle.qc_state.specs.Life.{is_open, connected_event, data_ready, datagram_heard, event_if, identifiers_wanted, life_closed, life_drained, life_established, life_raised, lost_event, ready_event, reason_given, token_learned, ready_reported, connected_reported, all_heard_reported, lost_reported, notices_reported, drained_reported, retirement_told, token_told}
 use Rattle.qc_state.specs.Lower.{bytes_came, datagrams_stepped, events_told, flight_dropped, frame_handed, limits_learned, packet_flown, packets_settled, session_read, session_wrote, streams_closed, streams_stepped, timer_fired, frames_sealed, ids_stepped}
-use Rattle.qc_state.specs.Moves.{Ack, Ask, Begin, Call, Finish, Fire, Give, Hand, IsTold, MayMove, Move, Post, Shut, Spend, ReportReady, ReportConnected, ReportHeard, ReportAllHeard, ReportLost, ReportNotice, ReportNotices, ReportDrained, ReportStream, ReportStreams, Seal, Take, Tell, deeds_move, life_move, lower_move, move_to, shrunk_steps, state_move, told_to_streams, Insert, Switch, Retire}
+use Rattle.qc_state.specs.Moves.{Ack, Ask, Begin, Call, Finish, Fire, Give, Hand, IsTold, MayMove, Move, Post, Shut, Spend, ReportReady, ReportConnected, ReportHeard, ReportAllHeard, ReportLost, ReportNotice, ReportNotices, ReportDrained, ReportStream, ReportStreams, Seal, Take, Tell, deeds_move, life_move, lower_move, move_to, shrunk_steps, state_move, told_to_streams, Insert, Switch, Retire, Update}
 use Rattle.qc_state.specs.Numbers.{next_number}
 use Rattle.qc_state.specs.Polls.{waiting_events}
 use Rattle.qc_state.specs.Run.{IsAllowed, IsStep, Run, answer_of, began, called, called_all, close_after, datagram_limit, input_after, reported, time_of}
@@ -45,6 +45,9 @@ use Rattle.qc_state.proofs.DatagramSteps.{posts_append}
 use Rattle.qc_state.proofs.Probed.{begun_streams}
 use Rattle.qc_state.proofs.RoomTold.{told_append}
 use Rattle.qc_state.proofs.Telling.{open_rank, told_appends}
+use Rattle.qc_state.specs.Updating.{fresh_now}
+use Rattle.qc_state.proofs.Tried.{holds_tried}
+use Rattle.qc_state.proofs.Updates.{holds_updated}
 use Rattle.qc_state.proofs.Transmitted.{IsSealable, IsUntold, transmit_told}
 use Rattle.qc_laws.specs.PostLaws.{AreOfDeeds, ArePosts, AreShrunk, FoldsPosts, MakesPosts, NoneShrunk, heard_in, is_shrunk}
 use Rattle.qc_laws.specs.StreamsLaws.{with_steps}
@@ -431,11 +434,12 @@ module _ {t : Types} where
   other_folds : (m : Meaning t) (i : Input) (choice : Choice) (a : At t) → is_called i ≡ false → IsAllowed m i choice a → Folds true a (input_after m i choice a)
   other_folds m i choice a uncalled may = known_other m (Folds true) (folds_here true) (folds_next true) (λ y c known plain may_be. move_folds true m y c known plain may_be (λ e. cc e)) (packet_folds true) i choice a uncalled may
 
-  -- a transmit, a close and a ping drop nothing
+  -- a transmit, a close, a ping and an update drop nothing
   sent_folds : (m : Meaning t) (time max : ℕ) (choice : Choice) (a : At t) → IsAllowed m (input.Transmit time max) choice a → Folds false a (input_after m (input.Transmit time max) choice a)
   unfolding IsAllowed input_after spent_after told_sent MayMove
   sent_folds m time max choice a may =
       transmit_told m (Folds false) (folds_here false) (folds_next false) (λ x r b may_be. move_folds false m x b (sending_known m x b.state r) (sending_uncalled x r) may_be (λ e. moved_none x b.state r))
+      (λ f b. holds_tried m (Folds false) (folds_here false) (λ c may_be. move_folds false m (Update _ _) c tt tt may_be (λ e. refl)) f b)
       (λ at_time size b. move_folds false m (Spend _) b (record { time = at_time; size = size; is = refl }) tt tt (λ e. refl))
       (λ at_time batch b. move_folds false m (Finish batch.total _) b (record { time = at_time; bytes = batch.total; last = batch.last; is = refl }) tt tt (λ e. refl)) (packet_folds false) time max choice a may
 
@@ -452,6 +456,10 @@ module _ {t : Types} where
   unfolding input_after MayMove
   asked_folds m time choice a = move_folds false m (Ask a.state.keys.highest) a tt tt tt (λ e. refl)
 
+  updated_folds : (m : Meaning t) (time : ℕ) (choice : Choice) (a : At t) → Folds false a (input_after m (input.Update time) choice a)
+  unfolding input_after
+  updated_folds m time choice a = holds_updated m (Folds false) (folds_here false) (λ b may. move_folds false m (Update (fresh_now m b.state) (m.after_next b.state.lower.session)) b tt tt may (λ e. refl)) a
+
   input_does : (m : Meaning t) (i : Input) (x : TraceStep) (choice : Choice) (s : View t) → IsAllowed m i choice (began s (time_of i)) → x.answer ≡ answer_of m i choice (began s (time_of i)) →
       Does i x s (input_after m i choice (began s (time_of i)))
   unfolding began move_to state_move lower_move life_move deeds_move datagrams_stepped input_after IsAllowed answer_of after told_by_all frames_sealed ids_stepped
@@ -461,6 +469,7 @@ module _ {t : Types} where
   input_does m (input.Transmit time max) x choice s may answers = does_by (input.Transmit time max) x s _ false (λ made none h. (none refl, h)) (sent_folds m time max choice (began s time) may)
   input_does m (input.Close time code reason) x choice s may answers = does_by (input.Close time code reason) x s _ false (λ made none h. (none refl, h)) (closed_folds m time code reason choice (began s time))
   input_does m (input.Ping time) x choice s may answers = does_by (input.Ping time) x s _ false (λ made none h. (none refl, h)) (asked_folds m time choice (began s time))
+  input_does m (input.Update time) x choice s may answers = does_by (input.Update time) x s _ false (λ made none h. (none refl, h)) (updated_folds m time choice (began s time))
   input_does m (input.SendDatagram time body) x choice s may answers = record {
     made = Sent (datagram_limit (began s time).state) true body ∷ [];
     leads = refl;

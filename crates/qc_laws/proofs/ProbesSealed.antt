@@ -33,7 +33,7 @@ use Rattle.qc_laws.proofs.FramesFit.{carried_fit}
 use Rattle.qc_laws.proofs.InitialLeft.{flown_deeds, sealed_deeds}
 use Rattle.qc_laws.proofs.PacketBytes.{number_most}
 use Rattle.qc_laws.proofs.PacketSeals.{HasKeys, as_sealed, bytes_are, can_arrive, is_sealed, keys_there}
-use Rattle.qc_laws.proofs.SealingKept.{SealsAlike, alike_next, probe_alike}
+use Rattle.qc_laws.proofs.SealingKept.{SealsBy, by_alike, probe_alike}
 
 -- ---- its size
 
@@ -104,13 +104,13 @@ module _ {t : Types} where
     pub bytes : packet_bytes m c.state form.OneRtt (probe_frames c.state size) ≡ bytes_as m.seal packet
     pub can : HasFields s → CanArrive (length s.paths.current.remote_cid) (s.setup.fixed.version ∷ []) (takes_grease s.setup.peer) packet.flip packet.header packet.plain []
 
-  pub seals_probe : (m : Meaning t) (time size : ℕ) (quiet : Quiet) (s : View t) (b : Batch) (a : At t) → SealsAlike s a.state → probe_size time a.state ≡ Some size → kill_in b a.state form.OneRtt ≡ None →
+  pub seals_probe : (m : Meaning t) (time size : ℕ) (quiet : Quiet) (s : View t) (b : Batch) (a : At t) → SealsBy s a.state → probe_size time a.state ≡ Some size → kill_in b a.state form.OneRtt ≡ None →
       SealsProbe m s time size (probe_begun_after m time quiet b a)
   unfolding probe_size
   seals_probe m time size quiet s b a alike due kill =
       let c : At t = probe_begun_after m time quiet b a in
       let fs : List FrameValue = probe_frames c.state size in
-      let here : SealsAlike s c.state = alike_next s a.state c.state alike (probe_alike m time quiet b a) in
+      let here : SealsBy s c.state = by_alike s a.state c.state alike (probe_alike m time quiet b a) in
       let may : IsSealable time c.state form.OneRtt fs = probe_sealable m time size quiet b a due kill in
       let k : HasKeys c.state.keys form.OneRtt = keys_there c.state.keys form.OneRtt may.keyed in
       let within = due_within _ _ size due in

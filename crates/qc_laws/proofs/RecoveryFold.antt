@@ -32,7 +32,7 @@ use Rattle.qc_state.specs.Forms.{number_space, is_early}
 use Rattle.qc_state.specs.Keys.{epoch_in}
 use Rattle.qc_state.specs.Life.{is_open, is_over, rank_of}
 use Rattle.qc_state.specs.Lower.{bytes_came, flight_dropped, packet_flown, packets_settled, session_read, session_wrote, timer_fired, limits_learned, frame_handed, streams_closed, streams_stepped, datagrams_stepped, frames_sealed, ids_stepped}
-use Rattle.qc_state.specs.Moves.{Accept, Ack, Arm, Ask, Begin, Clock, Come, Confirm, PeerClosesToo, Enter, Establish, Expect, Fail, Finish, Fire, Fix, Forget, Give, Hear, IsTold, Learn, PeerCloses, MayMove, Move, Owe, Pace, Raise, Read, Ready, Release, Say, Seal, Shut, Skip, Take, Tell, Token, Want, Write, deeds_move, is_close, keys_move, life_move, lower_move, move_to, numbers_move, paths_move, setup_move, state_move, timers_move, waiting_move, Call, Hand, Post, Insert, Switch, Retire, Issue, Outlive, Hold, Spend, Probe, Discard, Unseal}
+use Rattle.qc_state.specs.Moves.{Accept, Ack, Arm, Ask, Begin, Clock, Come, Confirm, PeerClosesToo, Enter, Establish, Expect, Fail, Finish, Fire, Fix, Forget, Give, Hear, IsTold, Learn, PeerCloses, MayMove, Move, Owe, Pace, Raise, Read, Ready, Release, Say, Seal, Shut, Skip, Take, Tell, Token, Want, Write, deeds_move, is_close, keys_move, life_move, lower_move, move_to, numbers_move, paths_move, setup_move, state_move, timers_move, waiting_move, Call, Hand, Post, Insert, Switch, Retire, Issue, Outlive, Hold, Spend, Probe, Discard, Unseal, Update}
 use Rattle.qc_state.specs.Numbers.{began_at, next_number, received_number}
 use Rattle.qc_state.specs.Paths.{is_blocked, path_accepted, path_kept, path_received, path_sent, path_spun, peer_fixed, spun_by, path_named, path_capped}
 use Rattle.qc_state.specs.Recovering.{around_of, fired_by, settled_by, shows_validated}
@@ -192,6 +192,7 @@ module _ {t : Types} where
   move_parts m (Enter id n v) s k u may = (tt, refl, (λ id. refl))
   move_parts m Fail s k u may = (tt, refl, (λ id. refl))
   move_parts m (Unseal time n which fresh session) s k u may = (tt, refl, (λ id. refl))
+  move_parts m (Update fresh session) s k u may = (tt, refl, (λ id. refl))
   move_parts m Discard s k u may = (tt, refl, (λ id. refl))
   move_parts m (Accept time id n e g v) s k u may =
       (tt, ap (λ (p : PathData t.C). record { recovery = s.lower.recovery; path = p }) (accepted_kept s.paths id v s.setup.fixed.side (nat_le (received_number s.numbers id) n) g.spin), (λ id. refl))

@@ -6,7 +6,7 @@ use Rattle.qc_state.specs.declared.input.Input.TheVariants as input
 use Rattle.qc_state.specs.declared.trace.Answer.{Answer}
 use Rattle.qc_state.specs.declared.trace.Step.{Step}
 use Rattle.qc_state.specs.declared.transmit.Transmit.{Transmit}
-use Rattle.qc_state.specs.Moves.{keys_move, numbers_move, paths_move, setup_move, state_move, waiting_move}
+use Rattle.qc_state.specs.Moves.{keys_move, numbers_move, paths_move, setup_move, state_move, waiting_move, life_move}
 use Rattle.qc_state.specs.Run.{IsAllowed, IsStep, Run, answer_of, began, called, input_after, out_of, time_of}
 use Rattle.qc_state.specs.Sending.{Choice, Transmits, transmit_after, transmit_bytes, transmit_of}
 use Rattle.qc_state.specs.Types.{Types, Meaning}
@@ -14,6 +14,7 @@ use Rattle.qc_state.specs.View.{View, At}
 use Rattle.qc_laws.specs.SealLaws.{EachSealsAnswer, SealsAnswer, SealsBetween, SealsGiven}
 use Rattle.qc_laws.proofs.SealedDatagrams.{transmit_gives}
 use Rattle.qc_laws.proofs.SealingKept.{SealsAlike, alike_here}
+use Rattle.qc_state.specs.Updating.{may_update_now}
 
 module _ {t : Types} (m : Meaning t) (size : (key : t.P) (number : ℕ) (header plain : List ℕ) → length (m.seal key number header plain) ≡ length plain + 16) where
   -- a transmit
@@ -22,8 +23,8 @@ module _ {t : Types} (m : Meaning t) (size : (key : t.P) (number : ℕ) (header 
 
   -- the call begins, which is told the time
   began_alike : (s : View t) (time : ℕ) → SealsAlike s (began s time).state
-  unfolding began state_move keys_move numbers_move paths_move setup_move waiting_move
-  began_alike s time = record { masks = λ f. refl; sealers = λ f. refl; epochs = λ f. refl; cid = refl; spin = refl; fixed = refl; token = refl; peer = refl; acked = λ id. refl; written = λ id. refl }
+  unfolding began state_move keys_move life_move numbers_move paths_move setup_move waiting_move may_update_now
+  began_alike s time = record { masks = λ f. refl; sealers = λ f. refl; epochs = λ f. refl; nexts = refl; may = refl; cid = refl; spin = refl; fixed = refl; token = refl; peer = refl; acked = λ id. refl; written = λ id. refl }
 
   -- so it is by the view before the call
   pub polled_seals : (time asked : ℕ) (s : View t) (b : At t) (sent : Option Transmit) (buffer : List ℕ) → Transmits m time asked (began s time) b sent buffer → SealsBetween m s (began s time) b sent buffer

@@ -16,7 +16,8 @@ use Rattle.qc_state.specs.Moves.{Ask, Hand, Hold, Move, Probe, Seal, Tell, deeds
 use Rattle.qc_state.specs.Numbers.{next_number}
 use Rattle.qc_state.specs.Offers.{path_size}
 use Rattle.qc_state.specs.Paths.{held_size, least_on, most_on}
-use Rattle.qc_state.specs.Sending.{Choice, Died, Ending, Going, Held, Hushed, MayAll, MayEnd, MayFollow, MayStand, Probed, Sent, Went, MayTransmit, IsBehind, begun_after, bytes_out, ending_after, going_from, gone_after, held_after, is_closed_up, is_key_nearly_used_up, is_whole, most_of, next_segment, probe_begun_after, probe_frames, probe_sealed, probed_after, sealed_in, spared_after, packet_after, packet_size, packets_after, segment_of, sent_out, takes_another, transmit_after, transmit_bytes, transmit_of, transmit_with}
+use Rattle.qc_state.specs.Batches.{IsBehind, is_closed_up, is_whole, next_segment, segment_of, takes_another}
+use Rattle.qc_state.specs.Sending.{Choice, Died, Ending, Going, Held, Hushed, MayAll, MayEnd, MayFollow, MayStand, Probed, Sent, Went, MayTransmit, begun_after, bytes_out, ending_after, going_from, gone_after, held_after, is_key_nearly_used_up, most_of, probe_begun_after, probe_frames, probe_sealed, probed_after, sealed_in, spared_after, packet_after, packet_size, packets_after, sent_out, transmit_after, transmit_bytes, transmit_of, transmit_with, MayProbe, going_tried, kill_in}
 use Rattle.qc_state.specs.Setup.{takes_grease}
 use Rattle.qc_state.specs.Types.{Types, Meaning}
 use Rattle.qc_state.specs.View.{View, At}
@@ -28,7 +29,9 @@ use Rattle.qc_laws.proofs.InitialLeft.{begun_deeds, packet_deeds, sealed_deed}
 use Rattle.qc_laws.proofs.PacketBytes.{AreCut, datagrams_apart}
 use Rattle.qc_laws.proofs.PacketSeals.{SealsPacket, packet_joins, packet_opens, seals_packet, size_of}
 use Rattle.qc_laws.proofs.ProbesSealed.{SealsProbe, probe_deed, probe_deeds, seals_probe}
-use Rattle.qc_laws.proofs.SealingKept.{SealsAlike, alike_next, packet_alike, packets_alike}
+use Rattle.qc_laws.proofs.SealingKept.{SealsAlike, SealsBy, by_alike, by_begun, by_tried, packet_alike, packets_by}
+use Rattle.qc_state.specs.Updating.{tried_after}
+use Rattle.qc_state.proofs.Tried.{tried_did, tried_same}
 
 second_holds : (a b : Bool) → b ≡ true → (a || b) ≡ true
 second_holds true b h = refl
@@ -237,7 +240,7 @@ module _ {t : Types} where
       by_opens false e h = cc
 
   fills : (m : Meaning t) → ((key : t.P) (number : ℕ) (header plain : List ℕ) → length (m.seal key number header plain) ≡ length plain + 16) → (time : ℕ) (s : View t) (ps : List Sent) (g : Going t) →
-      SealsAlike s g.now.state → IsSmall g.batch → MayAll m time g ps → Fills m s g (packets_after m time ps g)
+      SealsBy s g.now.state → IsSmall g.batch → MayAll m time g ps → Fills m s g (packets_after m time ps g)
   fills m size time s [] g alike small may = record {
     first = [];
     more = [];
@@ -251,25 +254,32 @@ module _ {t : Types} where
     arrive = λ fields. (tt, tt);
   }
   fills m size time s (p ∷ ps) g alike small may =
-      by_opens p.opens refl (λ few. fills m size time s ps (packet_after m time p g) (alike_next s g.now.state (packet_after m time p g).now.state alike (packet_alike m time p g may.0)) few may.1)
+      by_opens p.opens refl (λ few. fills m size time s ps (packet_after m time p f) (by_alike s f.now.state (packet_after m time p f).now.state tried (packet_alike m time p f may.0)) few may.1)
     where
-      one : SealsPacket m s time p g
-      one = seals_packet m size time s p g alike may.0
+      -- behind the update that is tried for it
+      f : Going t
+      f = going_tried m p.form g
+
+      tried : SealsBy s f.now.state
+      tried = by_tried m s p.form g.now alike
+
+      one : SealsPacket m s time p f
+      one = seals_packet m size time s p f tried may.0
 
       deed : Did
-      deed = sealed_deed p (begun_after (number_space p.form) p.opens g.now)
+      deed = sealed_deed p (begun_after (number_space p.form) p.opens f.now)
 
-      appended_so : (last mid : List Did) → last ≡ (packet_after m time p g).now.did ++ mid → last ≡ g.now.did ++ deed ∷ mid
-      appended_so last mid is = is ∙ ap (λ (ds : List Did). ds ++ mid) (packet_deeds m time p g) ∙ append_assoc g.now.did (deed ∷ []) mid
+      appended_so : (last mid : List Did) → last ≡ (packet_after m time p f).now.did ++ mid → last ≡ g.now.did ++ deed ∷ mid
+      appended_so last mid is = is ∙ ap (λ (ds : List Did). ds ++ mid) (packet_deeds m time p f ∙ ap (λ (ds : List Did). ds ++ deed ∷ []) (tried_did m p.form g.now)) ∙ append_assoc g.now.did (deed ∷ []) mid
 
-      nonempty : 0 < size_of p g
-      nonempty = size_some p g
+      nonempty : 0 < size_of p f
+      nonempty = size_some p f
 
-      by_opens : (o : Bool) → p.opens ≡ o → (IsSmall (packet_after m time p g).batch → Fills m s (packet_after m time p g) (packets_after m time ps (packet_after m time p g))) → Fills m s g (packets_after m time ps (packet_after m time p g))
+      by_opens : (o : Bool) → p.opens ≡ o → (IsSmall (packet_after m time p f).batch → Fills m s (packet_after m time p f) (packets_after m time ps (packet_after m time p f))) → Fills m s g (packets_after m time ps (packet_after m time p f))
       by_opens true opens further =
-          let g' : Going t = packet_after m time p g in
-          let so : OpensSo p.form (size_of p g) g.batch g'.batch = packet_opens m time p g may.0 opens in
-          let few : IsSmall g'.batch = opened_small p.form (size_of p g) g.batch g'.batch small so in
+          let g' : Going t = packet_after m time p f in
+          let so : OpensSo p.form (size_of p f) g.batch g'.batch = packet_opens m time p f may.0 opens in
+          let few : IsSmall g'.batch = opened_small p.form (size_of p f) g.batch g'.batch small so in
           let rest : Fills m s g' (packets_after m time ps g') = further few in
           let x : SealedAs t.P = one.packet in
           record {
@@ -279,20 +289,20 @@ module _ {t : Types} where
             appended = appended_so (packets_after m time ps g').now.did rest.since rest.appended;
             told = (one.is, rest.told);
             out = behind_packet g.out (bytes_as m.seal x) (coalesced m.seal rest.first) (all_of (map (coalesced m.seal) rest.more)) g'.out (packets_after m time ps g').out rest.out one.out;
-            sizes = opened_ends p.form (size_of p g) (length (coalesced m.seal rest.first)) g.batch g'.batch (packets_after m time ps g').batch (coalesced m.seal (x ∷ rest.first)) (map (coalesced m.seal) rest.more) so
-                (behind_whole m time p g may.0 opens) (joined_size m x rest.first (size_of p g) one.size) nonempty rest.sizes;
+            sizes = opened_ends p.form (size_of p f) (length (coalesced m.seal rest.first)) g.batch g'.batch (packets_after m time ps g').batch (coalesced m.seal (x ∷ rest.first)) (map (coalesced m.seal) rest.more) so
+                (behind_whole m time p f may.0 opens) (joined_size m x rest.first (size_of p f) one.size) nonempty rest.sizes;
             alone = λ e. refl;
             none = λ e. refl;
             arrive = λ fields. let more = rest.arrive fields in
                 (tt, ((one.can fields few.capacity (coalesced m.seal rest.first) (λ short. ap (coalesced m.seal) (rest.alone (so.short ∙ short))), more.0), more.1));
           }
       by_opens false joins further =
-          let g' : Going t = packet_after m time p g in
-          let so : JoinsSo p.form (size_of p g) g.batch g'.batch = packet_joins m time p g may.0 joins in
-          let few : IsSmall g'.batch = joined_small p.form (size_of p g) g.batch g'.batch small so in
+          let g' : Going t = packet_after m time p f in
+          let so : JoinsSo p.form (size_of p f) g.batch g'.batch = packet_joins m time p f may.0 joins in
+          let few : IsSmall g'.batch = joined_small p.form (size_of p f) g.batch g'.batch small so in
           let rest : Fills m s g' (packets_after m time ps g') = further few in
           let x : SealedAs t.P = one.packet in
-          let behind = joins_behind g.batch (place_joins m time p g may.0 joins) in
+          let behind = joins_behind g.batch (place_joins m time p f may.0 joins) in
           record {
             first = x ∷ rest.first;
             more = rest.more;
@@ -300,8 +310,8 @@ module _ {t : Types} where
             appended = appended_so (packets_after m time ps g').now.did rest.since rest.appended;
             told = (one.is, rest.told);
             out = behind_packet g.out (bytes_as m.seal x) (coalesced m.seal rest.first) (all_of (map (coalesced m.seal) rest.more)) g'.out (packets_after m time ps g').out rest.out one.out;
-            sizes = subst (λ (n : ℕ). EndsSo g.batch (packets_after m time ps g').batch n (map (coalesced m.seal) rest.more)) (sym (joined_size m x rest.first (size_of p g) one.size))
-                (joined_ends p.form (size_of p g) (length (coalesced m.seal rest.first)) g.batch g'.batch (packets_after m time ps g').batch (map (coalesced m.seal) rest.more) so behind.0 rest.sizes);
+            sizes = subst (λ (n : ℕ). EndsSo g.batch (packets_after m time ps g').batch n (map (coalesced m.seal) rest.more)) (sym (joined_size m x rest.first (size_of p f) one.size))
+                (joined_ends p.form (size_of p f) (length (coalesced m.seal rest.first)) g.batch g'.batch (packets_after m time ps g').batch (map (coalesced m.seal) rest.more) so behind.0 rest.sizes);
             alone = λ e. absurd (let long : g.batch.short ≡ false = behind.1 in cc);
             none = λ e. absurd (let some : 0 < g.batch.made = behind.0 in omega (arith, e, some));
             arrive = λ fields. let more = rest.arrive fields in
@@ -339,7 +349,7 @@ module _ {t : Types} where
       (subst (λ (x : List ℕ). SealsDatagrams m s (f.since ++ es) (segment_of h.batch) x) (sym is_buffer) (whole m s g h es none empty may.0.some quiet f))
   given_so m time s g h es to (Hushed why) sent buffer none empty quiet f plain may is_sent is_buffer = subst (λ (o : Option Transmit). SealsGiven m s (f.since ++ es) o buffer) (sym is_sent) is_buffer
   given_so m time s g h es to (Probed why size) sent buffer none empty quiet f plain may is_sent is_buffer = absurd plain
-  given_so m time s g h es to (Died why) sent buffer none empty quiet f plain may is_sent is_buffer = subst (λ (o : Option Transmit). SealsGiven m s (f.since ++ es) o buffer) (sym is_sent) is_buffer
+  given_so m time s g h es to (Died f' why) sent buffer none empty quiet f plain may is_sent is_buffer = subst (λ (o : Option Transmit). SealsGiven m s (f.since ++ es) o buffer) (sym is_sent) is_buffer
 
   plain_gives : (m : Meaning t) (time : ℕ) (s : View t) (g h : Going t) (to : View t) (e : Ending) (sent : Option Transmit) (buffer : List ℕ) → g.batch.made ≡ 0 → g.out ≡ [] → Fills m s g h → IsUnprobed e →
       MayEnd m time e h.now.state h.batch → sent ≡ sent_out e (transmit_with to h.batch) → buffer ≡ bytes_out m time e h.batch h.now h.out → SealsBetween m s g.now (ending_after m time e h.batch h.now) sent buffer
@@ -381,18 +391,21 @@ module _ {t : Types} where
           by_all (e ∷ es) many = omega (arith, many.0, still)
 
   probe_gives : (m : Meaning t) (time size : ℕ) (quiet : Quiet) (s : View t) (g h : Going t) (to : View t) (sent : Option Transmit) (buffer : List ℕ) →
-      g.batch.made ≡ 0 → SealsAlike s h.now.state → Fills m s g h → MayEnd m time (Probed quiet size) h.now.state h.batch → sent ≡ sent_out (Probed quiet size) (transmit_with to h.batch) →
+      g.batch.made ≡ 0 → SealsBy s h.now.state → Fills m s g h → MayEnd m time (Probed quiet size) h.now.state h.batch → sent ≡ sent_out (Probed quiet size) (transmit_with to h.batch) →
       buffer ≡ bytes_out m time (Probed quiet size) h.batch h.now h.out → SealsBetween m s g.now (ending_after m time (Probed quiet size) h.batch h.now) sent buffer
   unfolding ending_after probed_after probe_sealed transmit_with
   probe_gives m time size quiet s g h to sent buffer none alike f may is_sent is_buffer =
-      let c : At t = probe_begun_after m time quiet h.batch h.now in
+      let tried : At t = tried_after m form.OneRtt h.now in
+      let c : At t = probe_begun_after m time quiet h.batch tried in
       let d : At t = sealed_in m time form.OneRtt (probe_frames c.state size) c in
       let e : At t = move_to (Probe time (next_number c.state.numbers «Data») size quiet) d in
       let last : At t = spared_after time (is_key_nearly_used_up c.state form.OneRtt) e in
-      let before : Unsealed h.now c = begun_unsealed m time quiet h.batch h.now in
+      let before : Unsealed h.now c = unsealed_next h.now tried c (unsealed_same h.now tried (tried_did m form.OneRtt h.now)) (begun_unsealed m time quiet h.batch tried) in
+      let probe : MayProbe m time tried.state h.batch quiet size = subst (λ (v : View t). MayProbe m time v h.batch quiet size) (sym (tried_same m form.OneRtt h.now)) may.0 in
+      let fresh : kill_in h.batch tried.state form.OneRtt ≡ None = ap (λ (v : View t). kill_in h.batch v form.OneRtt) (tried_same m form.OneRtt h.now) ∙ may.1 in
       let behind : Unsealed d last = unsealed_next d e last (unsealed_move (Probe time (next_number c.state.numbers «Data») size quiet) tt d)
       (holds_spared Unsealed unsealed_here unsealed_next (λ x r b k. unsealed_move x (untold_sending x r) b) time (is_key_nearly_used_up c.state form.OneRtt) e) in
-      let one : SealsProbe m s time size c = seals_probe m time size quiet s h.batch h.now alike may.0.due may.1 in
+      let one : SealsProbe m s time size c = seals_probe m time size quiet s h.batch tried (by_tried m s form.OneRtt h.now alike) probe.due fresh in
       let deed : Did = probe_deed size c in
       let since : List Did = f.since ++ (before.since ++ (deed ∷ behind.since)) in
       let quiet_before : NoneSealed f.since = none_filled m s g h none may.0.none f in
@@ -420,14 +433,15 @@ module _ {t : Types} where
   transmit_gives m size time asked choice s a b sent buffer alike may leads is_sent is_buffer =
       let g : Going t = going_from asked a in
       let h : Going t = packets_after m time choice.packets g in
-      let f : Fills m s g h = fills m size time s choice.packets g alike (begun_small a.state.waiting.close_owed a.state.setup.fixed.pads (most_of a.state asked) (path_size a.state) (least_on a.state.paths.current) (size_small a.state)) may.0 in
-      let behind : SealsAlike s h.now.state = alike_next s a.state h.now.state alike (packets_alike m time choice.packets g may.0) in
+      let f : Fills m s g h = fills m size time s choice.packets g (by_begun s a.state alike) (begun_small a.state.waiting.close_owed a.state.setup.fixed.pads (most_of a.state asked) (path_size a.state) (least_on a.state.paths.current) (size_small a.state)) may.0 in
+      let begun : SealsBy s a.state = by_begun s a.state alike in
+      let behind : SealsBy s h.now.state = packets_by m time s choice.packets g begun may.0 in
       subst (λ (x : At t). SealsBetween m s a x sent buffer) (sym leads) (by_ending choice.ending f behind may.1 is_sent is_buffer)
     where
-      by_ending : (e : Ending) → let g : Going t = going_from asked a in let h : Going t = packets_after m time choice.packets g in Fills m s g h → SealsAlike s h.now.state → MayEnd m time e h.now.state h.batch →
+      by_ending : (e : Ending) → let g : Going t = going_from asked a in let h : Going t = packets_after m time choice.packets g in Fills m s g h → SealsBy s h.now.state → MayEnd m time e h.now.state h.batch →
           sent ≡ sent_out e (transmit_with a.state h.batch) → buffer ≡ bytes_out m time e h.batch h.now h.out → SealsBetween m s a (ending_after m time e h.batch h.now) sent buffer
       by_ending (Probed quiet n) f behind may so out = probe_gives m time n quiet s (going_from asked a) (packets_after m time choice.packets (going_from asked a)) a.state sent buffer refl behind f may so out
       by_ending Went f behind may so out = plain_gives m time s (going_from asked a) (packets_after m time choice.packets (going_from asked a)) a.state Went sent buffer refl refl f tt may so out
       by_ending Held f behind may so out = plain_gives m time s (going_from asked a) (packets_after m time choice.packets (going_from asked a)) a.state Held sent buffer refl refl f tt may so out
       by_ending (Hushed quiet) f behind may so out = plain_gives m time s (going_from asked a) (packets_after m time choice.packets (going_from asked a)) a.state (Hushed quiet) sent buffer refl refl f tt may so out
-      by_ending (Died why) f behind may so out = plain_gives m time s (going_from asked a) (packets_after m time choice.packets (going_from asked a)) a.state (Died why) sent buffer refl refl f tt may so out
+      by_ending (Died f' why) f behind may so out = plain_gives m time s (going_from asked a) (packets_after m time choice.packets (going_from asked a)) a.state (Died f' why) sent buffer refl refl f tt may so out

@@ -28,7 +28,8 @@ use Rattle.qc_state.specs.Moves.{Begin, Seal, Skip, Take, armed_with, keys_move,
 use Rattle.qc_state.specs.Numbers.{acked_number, coming_number, is_skipped, next_number, number_used}
 use Rattle.qc_state.specs.Offers.{datagram_waits, packet_begun, path_size, probe_begun, probe_sent, short_room, streams_filed, streams_want, wants_sending}
 use Rattle.qc_state.specs.Paths.{most_on, path_kept}
-use Rattle.qc_state.specs.Sending.{Carries, Going, MayFollow, Sent, begun_after, flown_after, is_flown, is_in_order, is_last_in, packet_after, packet_size, sealed_in, skipped_after, spent_after, wants_in}
+use Rattle.qc_state.specs.Batches.{is_in_order, is_last_in}
+use Rattle.qc_state.specs.Sending.{Carries, Going, MayFollow, Sent, begun_after, flown_after, is_flown, packet_after, packet_size, sealed_in, skipped_after, spent_after, wants_in}
 use Rattle.qc_state.specs.Spaces.{is_space, space_of, with_space}
 use Rattle.qc_state.specs.StreamFrames.{sealed_step, sealed_steps}
 use Rattle.qc_state.specs.Types.{Types, Meaning}

@@ -15,7 +15,7 @@ use Rattle.qc_state.specs.declared.events.Event.TheVariants.{Stream}
 use Rattle.qc_state.specs.declared.input.Input.{Input}
 use Rattle.qc_state.specs.declared.input.Input.TheVariants as input
 use Rattle.qc_state.specs.declared.trace.Answer.{Answer}
-use Rattle.qc_state.specs.declared.trace.Answer.TheVariants.{Done, Dropped}
+use Rattle.qc_state.specs.declared.trace.Answer.TheVariants.{Done, Dropped, Flag}
 use Rattle.qc_state.specs.declared.trace.Step.{Step}
 use Rattle.qc_state.specs.declared.transmit.Transmit.{Transmit}
 use Rattle.qc_state.specs.Datagrams.{sent_answer, taken_answer}
@@ -30,6 +30,7 @@ use Rattle.qc_state.specs.Timeouts.{timeout_after}
 use Rattle.qc_state.specs.Timers.{next_timeout}
 use Rattle.qc_state.specs.Types.{Types, Meaning}
 use Rattle.qc_state.specs.View.{View, At, at}
+use Rattle.qc_state.specs.Updating.{may_update_now, updated_after}
 use Rattle.qc_streams.specs.declared.events.StreamEvent.{StreamEvent}
 use Rattle.qc_streams.specs.declared.fault.ReadFault.{ReadFault}
 use Rattle.qc_streams.specs.declared.fault.ReadFault.TheVariants.{Blocked}
@@ -72,6 +73,17 @@ module _ {t : Types} where
     leads = ap (λ (x : List Did). at b x) is_ds ∙ ap (λ (x : View t). at x []) (is_b ∙ ap (λ (x : View t). state_move (Ask x.keys.highest) x) is_mid);
     allowed = tt;
     answers = e;
+  }
+
+  -- the keys are updated, where they may be
+  pub calls_update : (m : Meaning t) (s mid : View t) (time : ℕ) (b : At t) (ds : List Did) (may : Bool) (answer : Answer) →
+      mid ≡ state_move (Clock time) s → ds ≡ [] → b ≡ updated_after m (at mid ds) → may ≡ may_update_now mid → answer ≡ Flag may → Calls m s (input.Update time) b answer
+  unfolding began input_after called IsAllowed answer_of
+  calls_update m s mid time b ds may answer is_mid is_ds is_b is_may e = record {
+    choice = unread;
+    leads = is_b ∙ ap (λ (x : List Did). updated_after m (at mid x)) is_ds ∙ ap (λ (x : View t). updated_after m (at x [])) is_mid;
+    allowed = tt;
+    answers = e ∙ ap Flag (is_may ∙ ap may_update_now is_mid);
   }
 
   -- a datagram of the application is sent, and one is taken

@@ -21,7 +21,7 @@ use Rattle.qc_state.specs.Forms.{number_space}
 use Rattle.qc_state.specs.Headline.{deeds_of}
 use Rattle.qc_state.specs.Life.{is_open, is_over}
 use Rattle.qc_state.specs.Lower.{bytes_came, flight_dropped, packets_settled, ready_bytes, session_read, session_wrote, stream_of, timer_fired, limits_learned, frame_handed, streams_closed, streams_stepped, events_told, event_told, datagrams_stepped, frames_sealed, ids_stepped}
-use Rattle.qc_state.specs.Moves.{Accept, Ack, Ask, Begin, Come, Enter, Fire, Forget, Move, Read, Seal, Shut, Take, Tell, Write, deeds_move, lower_move, move_to, state_move, Hand, Call, Post, Issue}
+use Rattle.qc_state.specs.Moves.{Accept, Ack, Ask, Begin, Come, Enter, Fire, Forget, Move, Read, Seal, Shut, Take, Tell, Write, deeds_move, lower_move, move_to, state_move, Hand, Call, Post, Issue, Update}
 use Rattle.qc_state.specs.Numbers.{next_number}
 use Rattle.qc_state.specs.Recovering.{settled_by}
 use Rattle.qc_state.specs.Receiving.{datagram_after}
@@ -31,6 +31,8 @@ use Rattle.qc_state.specs.Spaces.{is_space}
 use Rattle.qc_laws.specs.StreamLaws.{GivesStream, is_of, session_bytes}
 use Rattle.qc_state.specs.Types.{Types, Meaning}
 use Rattle.qc_state.specs.View.{View, At}
+use Rattle.qc_state.specs.Updating.{fresh_now}
+use Rattle.qc_state.proofs.Updates.{holds_updated}
 use Rattle.qc_state.specs.Recovering.{settled_by}
 use Rattle.qc_laws.proofs.CryptoPlaces.{same_or}
 use Rattle.qc_state.proofs.Expired.{IsTimed, holds_timeout}
@@ -269,6 +271,7 @@ module _ {t : Types} (id : SpaceId) where
   input_kept m (input.Transmit time max) choice a may = holds_transmit Kept kept_here kept_next (λ x r b h. sending_kept x r b) (λ at form fs b h. seal_kept at form fs b) m time max choice a may
   input_kept m (input.Close time code reason) choice a may = shut_kept time _ a (is_open a.state.life.state)
   input_kept m (input.Ping time) choice a may = still_kept (Ask a.state.keys.highest) a refl (λ now. refl)
+  input_kept m (input.Update time) choice a may = holds_updated m Kept kept_here (λ b may_be. still_kept (Update (fresh_now m b.state) (m.after_next b.state.lower.session)) b refl (λ now. refl)) a
   input_kept m (input.SendDatagram time body) choice a may = still_kept (Post (datagrams.Sent (datagram_limit a.state) true body)) a refl (λ now. refl)
   input_kept m (input.RecvDatagram time) choice a may = still_kept (Post datagrams.Taken) a refl (λ now. refl)
   input_kept m (input.Identifiers time given) choice a may = still_kept (Issue time given) a refl (λ now. refl)

@@ -61,6 +61,7 @@ none_called (input.Timeout time) read s h = refl
 none_called (input.Transmit time max) read s h = refl
 none_called (input.Close time code reason) read s h = refl
 none_called (input.Ping time) read s h = refl
+none_called (input.Update time) read s h = refl
 none_called (input.SendDatagram time body) read s h = refl
 none_called (input.RecvDatagram time) read s h = refl
 none_called _ read s h = cc
@@ -256,6 +257,7 @@ module _ {t : Types} where
   input_does m (input.Transmit time max) x choice s may answers = other_does m (input.Transmit time max) x choice s refl may
   input_does m (input.Close time code reason) x choice s may answers = other_does m (input.Close time code reason) x choice s refl may
   input_does m (input.Ping time) x choice s may answers = other_does m (input.Ping time) x choice s refl may
+  input_does m (input.Update time) x choice s may answers = other_does m (input.Update time) x choice s refl may
   input_does m (input.SendDatagram time body) x choice s may answers = post_does (datagrams.Sent (datagram_limit (began s time).state) true body) (input.SendDatagram time body) x choice s refl
   input_does m (input.RecvDatagram time) x choice s may answers = post_does datagrams.Taken (input.RecvDatagram time) x choice s refl
   input_does m (input.Identifiers time given) x choice s may answers = issue_does time given (input.Identifiers time given) x choice s refl

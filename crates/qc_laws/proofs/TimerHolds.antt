@@ -28,19 +28,22 @@ use Rattle.qc_state.specs.Forms.{is_early, number_space}
 use Rattle.qc_state.specs.Headline.{deeds_of}
 use Rattle.qc_state.specs.Keys.{epoch_in, has_keys_for}
 use Rattle.qc_state.specs.Life.{is_drained, is_open}
-use Rattle.qc_state.specs.Moves.{Ack, Arm, Ask, Begin, Clock, Establish, Expect, Finish, Fire, Forget, Give, Hear, MayMove, Move, Pace, Probe, Raise, Release, ReportConnected, ReportDrained, ReportLost, ReportNotices, ReportReady, Say, Seal, Shut, Skip, Spend, Tell, Write, armed_after, armed_with, deeds_move, keys_move, move_to, paths_move, state_move, Call, Hold, ReportStreams, Post, ReportAllHeard, Outlive, Want, Issue, Discard}
+use Rattle.qc_state.specs.Moves.{Ack, Arm, Ask, Begin, Clock, Establish, Expect, Finish, Fire, Forget, Give, Hear, MayMove, Move, Pace, Probe, Raise, Release, ReportConnected, ReportDrained, ReportLost, ReportNotices, ReportReady, Say, Seal, Shut, Skip, Spend, Tell, Write, armed_after, armed_with, deeds_move, keys_move, move_to, paths_move, state_move, Call, Hold, ReportStreams, Post, ReportAllHeard, Outlive, Want, Issue, Update, Discard}
 use Rattle.qc_state.specs.Numbers.{next_number}
 use Rattle.qc_state.specs.Paths.{is_blocked, path_kept}
 use Rattle.qc_state.specs.Receiving.{counted_after, cut_of, datagram_after, first_after, first_token, heard_after, pieces_after}
 use Rattle.qc_state.specs.Recovering.{fired_by, is_validated_by_peer, loss_time}
 use Rattle.qc_state.specs.Run.{IsAllowed, IsStep, Run, began, called, close_after, input_after, reported, step_after, time_of, datagram_limit}
-use Rattle.qc_state.specs.Sending.{Choice, Died, Ending, Going, Held, Hushed, MayAll, MayEnd, MayFollow, MayOpen, MayProbe, MayStand, MayTransmit, Probed, Sent, Went, begun_after, drops_initial, ending_after, finished_after, flown_after, going_from, gone_after, handshake_left, initial_left, is_flown, is_key_nearly_used_up, next_segment, paced_until, packet_after, packets_after, probe_begun_after, probe_frames, probe_sealed, probed_after, sealed_in, spared_after, spent_after, told_sent, transmit_after, held_after}
+use Rattle.qc_state.specs.Batches.{next_segment}
+use Rattle.qc_state.specs.Sending.{Choice, Died, Ending, Going, Held, Hushed, MayAll, MayEnd, MayFollow, MayOpen, MayProbe, MayStand, MayTransmit, Probed, Sent, Went, begun_after, drops_initial, ending_after, finished_after, flown_after, going_from, gone_after, handshake_left, initial_left, is_flown, is_key_nearly_used_up, paced_until, packet_after, packets_after, probe_begun_after, probe_frames, probe_sealed, probed_after, sealed_in, spared_after, spent_after, told_sent, transmit_after, held_after, going_tried}
 use Rattle.qc_state.specs.Stopping.{given_after, key_limit_error, killed_after}
 use Rattle.qc_laws.specs.TimerLaws.{KeepsTimer, TimerHolds, awaits_ack, elicits_in, has_asked, has_probe_keys, must_probe, sealed_since}
 use Rattle.qc_state.specs.Timeouts.{ack_expired, close_expired, idle_expired, loss_expired, pacing_expired, timeout_after, ids_expired, wanted_anew, keys_expired}
 use Rattle.qc_state.specs.Timers.{has_come}
 use Rattle.qc_state.specs.Types.{Types, Meaning}
 use Rattle.qc_state.specs.View.{View, At}
+use Rattle.qc_state.specs.Updating.{fresh_now, tried_after}
+use Rattle.qc_state.proofs.Updates.{holds_updated}
 use Rattle.qc_state.proofs.Batches.{first_opens}
 use Rattle.qc_state.proofs.Begun.{begun_keys, holds_begun}
 use Rattle.qc_state.proofs.Ends.{given_by, stopped_by}
@@ -54,11 +57,12 @@ use Rattle.qc_state.proofs.ReceivedMoves.{IsUnopened, close_for}
 use Rattle.qc_laws.proofs.Receives.{pieces_hold}
 use Rattle.qc_state.proofs.Telling.{told_appends}
 use Rattle.qc_state.proofs.Quieted.{held_paths, quiet_blocked}
-use Rattle.qc_state.proofs.Transmitted.{IsUnspent, begins_keyed, free_unblocked, packets_told}
+use Rattle.qc_state.proofs.Transmitted.{IsUnspent, begins_keyed, free_unblocked, packet_told}
 use Rattle.qc_laws.proofs.TimerMoves.{HoldsIf, IsFree, IsPlain, arm_holds, holds_if, plain_free, plain_holds, sealed_holds, since_append, timer_holds}
 use Rattle.qc_laws.proofs.StreamCalls.{called_input}
 use Rattle.qc_datagrams.specs.Steps as datagrams
 use Rattle.qc_cids.specs.Cids.{asks_anew}
+use Rattle.qc_state.proofs.Tried.{holds_tried, tried_keeps, tried_same}
 
 -- an address that is validated blocks nothing
 unblocked_at : {C : Type 0} → (p : Paths C) → p.current.validated ≡ true → is_blocked p ≡ true → ⊥
@@ -412,13 +416,26 @@ module _ {t : Types} where
       (keeps_next free begun taken _ (keeps_sealed m free time form.OneRtt fs begun kept keyed)
       (keeps_next free taken (move_to probe taken) _ (keeps_plain m free probe taken tt) (spared_keeps m free time (is_key_nearly_used_up begun.state form.OneRtt) (move_to probe taken))))))
 
+  -- an update that is tried for a packet keeps both
+  tried_ends : (m : Meaning t) (f : Form) (a : At t) → Ends a.state → Ends (tried_after m f a).state
+  tried_ends m f a = holds_tried m (λ (b c : At t). Ends b.state → Ends c.state) (λ b h. h) (λ b may. known_keeps m (Update _ _) b tt may) f a
+
+  tried_holds : (m : Meaning t) (free : Bool) (f : Form) (a : At t) → Keeps free a (tried_after m f a)
+  tried_holds m free f a = holds_tried m (Keeps free) (keeps_here free) (λ b may. keeps_plain m free (Update _ _) b tt) f a
+
   ending_keeps : (m : Meaning t) (free : Bool) (time : ℕ) (e : Ending) (b : Batch) (a : At t) → Ends a.state → MayEnd m time e a.state b → Keeps free a (ending_after m time e b a)
   unfolding ending_after
   ending_keeps m free time Went b a ends may = finished_keeps m free time b a
   ending_keeps m free time Held b a ends may = let c : At t = held_after m time Pacing b a in keeps_next free a c _ (held_keeps m free time Pacing b a) (finished_keeps m free time b c)
   ending_keeps m free time (Hushed quiet) b a ends may = let c : At t = held_after m time quiet b a in keeps_next free a c _ (held_keeps m free time quiet b a) (keeps_plain m free (Say quiet) c tt)
-  ending_keeps m free time (Probed quiet size) b a ends may = probe_keeps m free time size quiet b a ends may.0
-  ending_keeps m free time (Died why) b a ends may = let c : At t = killed_after why a in keeps_next free a c _ (keeps_killed m free why a) (keeps_plain m free (Say Killed) c tt)
+  ending_keeps m free time (Probed quiet size) b a ends may =
+      let c : At t = tried_after m form.OneRtt a in
+      keeps_next free a c _ (tried_holds m free form.OneRtt a)
+      (probe_keeps m free time size quiet b c (tried_ends m form.OneRtt a ends) (subst (λ (s : View t). MayProbe m time s b quiet size) (sym (tried_same m form.OneRtt a)) may.0))
+  ending_keeps m free time (Died f why) b a ends may =
+      let d : At t = tried_after m f a in
+      let c : At t = killed_after why d in
+      keeps_next free a d _ (tried_holds m free f a) (keeps_next free d c _ (keeps_killed m free why d) (keeps_plain m free (Say Killed) c tt))
 
   -- a transmit that seals nothing leaves the path
   given_paths : (why : ConnectionError) (a : At t) (b : Bool) → let c : At t = move_to (Raise state.Drained) a in (if b then move_to (Give why) c else c).state.paths ≡ a.state.paths
@@ -435,38 +452,51 @@ module _ {t : Types} where
   quiet_stays m time Went b a none may h = let some : 0 < b.made = may.some in absurd (omega (arith, none, some))
   quiet_stays m time Held b a none may h = let some : 0 < b.made = may.0.some in absurd (omega (arith, none, some))
   quiet_stays m time (Hushed quiet) b a none may h = quiet_blocked (held_after m time quiet b a).state.paths quiet ∙ ap (λ (p : Paths t.C). is_blocked p) (held_paths m time quiet b a) ∙ h
-  quiet_stays m time (Probed quiet size) b a none may h = let validated : a.state.paths.current.validated ≡ true = due_validated time size a.state may.0.due in absurd (unblocked_at a.state.paths validated h)
-  quiet_stays m time (Died why) b a none may h = quiet_blocked (killed_after why a).state.paths Killed ∙ ap (λ (p : Paths t.C). is_blocked p) (killed_paths why a) ∙ h
+  quiet_stays m time (Probed quiet size) b a none may h =
+      let c : At t = tried_after m form.OneRtt a in
+      let same : c.state.paths ≡ a.state.paths = (tried_keeps m form.OneRtt a).paths in
+      let probe : MayProbe m time c.state b quiet size = subst (λ (s : View t). MayProbe m time s b quiet size) (sym (tried_same m form.OneRtt a)) may.0 in
+      absurd (unblocked_at c.state.paths (due_validated time size c.state probe.due) (ap (λ (p : Paths t.C). is_blocked p) same ∙ h))
+  quiet_stays m time (Died f why) b a none may h =
+      let d : At t = tried_after m f a in
+      quiet_blocked (killed_after why d).state.paths Killed ∙ ap (λ (p : Paths t.C). is_blocked p) (killed_paths why d ∙ (tried_keeps m f a).paths) ∙ h
 
   -- the moves of a packet keep what is known of the end of a connection
   unspent_known : (m : Meaning t) (x : Move t) (s : View t) → IsUnspent x → IsKnownMove m x s
   unspent_known m (Begin id opens) s r = tt
   unspent_known m Skip s r = tt
+  unspent_known m (Update fresh session) s r = absurd r
   unspent_known m (Arm at) s r = tt
   unspent_known m _ s r = absurd r
 
   packet_ends : (m : Meaning t) (time : ℕ) (p : Sent) (g : Going t) → MayFollow m time g.now.state g.batch p → Ends g.now.state → Ends (packet_after m time p g).now.state
   unfolding spent_after MayMove
   packet_ends m time p g may =
-      packets_told m (λ (b c : At t). Ends b.state → Ends c.state) (λ b h. h) (λ b c d g h e. h (g e)) (λ x r b h. known_keeps m x b (unspent_known m x b.state r) h)
-      (λ at_time size b. known_keeps m (Spend _) b (record { time = at_time; size = size; is = refl }) tt) (λ at_time form fs b h. ends_seal at_time form fs b h) time (p ∷ []) g (may, tt)
+      packet_told m (λ (b c : At t). Ends b.state → Ends c.state) (λ b h. h) (λ b c d g h e. h (g e)) (λ x r b h. known_keeps m x b (unspent_known m x b.state r) h)
+      (λ at_time size b. known_keeps m (Spend _) b (record { time = at_time; size = size; is = refl }) tt) (λ at_time form fs b h. ends_seal at_time form fs b h) time p g may
 
   all_ends : (m : Meaning t) (time : ℕ) (ps : List Sent) (g : Going t) → MayAll m time g ps → Ends g.now.state → Ends (packets_after m time ps g).now.state
   all_ends m time [] g may ends = ends
-  all_ends m time (p ∷ ps) g may ends = all_ends m time ps (packet_after m time p g) may.1 (packet_ends m time p g may.0 ends)
+  all_ends m time (p ∷ ps) g may ends =
+      let f : Going t = going_tried m p.form g in
+      all_ends m time ps (packet_after m time p f) may.1 (packet_ends m time p f may.0 (tried_ends m p.form g.now ends))
 
   packets_keep : (m : Meaning t) (free : Bool) (time : ℕ) (ps : List Sent) (g : Going t) → Ends g.now.state → MayAll m time g ps → Keeps free g.now (packets_after m time ps g).now
   packets_keep m free time [] g ends may = keeps_here free g.now
   packets_keep m free time (p ∷ ps) g ends may =
-      let h : Going t = packet_after m time p g in
-      keeps_next free g.now h.now _ (packet_keeps m free time p g ends may.0) (packets_keep m free time ps h (packet_ends m time p g may.0 ends) may.1)
+      let f : Going t = going_tried m p.form g in
+      let h : Going t = packet_after m time p f in
+      let kept : Ends f.now.state = tried_ends m p.form g.now ends in
+      keeps_next free g.now f.now _ (tried_holds m free p.form g.now)
+      (keeps_next free f.now h.now _ (packet_keeps m free time p f kept may.0) (packets_keep m free time ps h (packet_ends m time p f may.0 kept) may.1))
 
   -- the first packet of a transmit begins a datagram, so that the path isn't blocked as it begins
-  first_free : (m : Meaning t) (time asked : ℕ) (p : Sent) (a : At t) → MayFollow m time a.state (going_from asked a).batch p → is_blocked a.state.paths ≡ false
+  first_free : (m : Meaning t) (time asked : ℕ) (p : Sent) (a : At t) → MayFollow m time (tried_after m p.form a).state (going_from asked a).batch p → is_blocked a.state.paths ≡ false
   first_free m time asked p a may =
       let b : Batch = (going_from asked a).batch in
-      let place : MayOpen m time a.state b (number_space p.form) = subst (λ (o : Bool). MayStand m time a.state b (number_space p.form) o) (first_opens m time a.state b p may refl) may.begins.place in
-      free_unblocked m time a.state b (number_space p.form) place.free
+      let c : At t = tried_after m p.form a in
+      let place : MayOpen m time c.state b (number_space p.form) = subst (λ (o : Bool). MayStand m time c.state b (number_space p.form) o) (first_opens m time c.state b p may refl) may.begins.place in
+      ap (λ (q : Paths t.C). is_blocked q) (sym (tried_keeps m p.form a).paths) ∙ free_unblocked m time c.state b (number_space p.form) place.free
 
   packets_hold : (m : Meaning t) (time asked : ℕ) (ps : List Sent) (e : Ending) (a : At t) → let g : Going t = packets_after m time ps (going_from asked a) in
       Ends a.state → MayAll m time (going_from asked a) ps → MayEnd m time e g.now.state g.batch → Holds a (ending_after m time e g.batch g.now)
@@ -494,6 +524,7 @@ module _ {t : Types} where
   input_holds m (input.Transmit time max) choice a ends may = transmit_holds m time max choice a ends may
   input_holds m (input.Close time code reason) choice a ends may = closed_by m time _ a (is_open a.state.life.state)
   input_holds m (input.Ping time) choice a ends may = holds_plain m (Ask a.state.keys.highest) a tt refl
+  input_holds m (input.Update time) choice a ends may = holds_updated m Holds holds_here (λ b may_be. holds_plain m (Update (fresh_now m b.state) (m.after_next b.state.lower.session)) b tt refl) a
   input_holds m (input.SendDatagram time body) choice a ends may = holds_plain m (Post (datagrams.Sent (datagram_limit a.state) true body)) a tt refl
   input_holds m (input.RecvDatagram time) choice a ends may = holds_plain m (Post datagrams.Taken) a tt refl
   input_holds m (input.Identifiers time given) choice a ends may = holds_plain m (Issue time given) a tt refl

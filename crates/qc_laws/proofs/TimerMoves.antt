@@ -32,7 +32,7 @@ use Rattle.qc_state.specs.Flight.{counts_in_flight, flown_packet, is_padding}
 use Rattle.qc_state.specs.Forms.{number_space}
 use Rattle.qc_state.specs.Life.{connected_reported, data_ready, drained_reported, identifiers_wanted, is_established, is_handshake, is_open, life_closed, life_drained, life_established, life_raised, lost_reported, notice_reported, notices_reported, rank_of, ready_reported, reason_given, token_learned, all_heard_reported, heard_reported, datagram_heard, is_drained}
 use Rattle.qc_state.specs.Lower.{bytes_came, flight_dropped, packet_flown, packets_settled, session_read, session_wrote, timer_fired, limits_learned, frame_handed, streams_closed, streams_stepped, event_told, events_told, datagrams_stepped, frames_sealed, ids_stepped}
-use Rattle.qc_state.specs.Moves.{Accept, Ack, AreNext, Arm, Begin, Establish, Fail, Finish, Fire, Forget, Give, Hear, IsTold, Move, PeerCloses, PeerClosesToo, Probe, Raise, Seal, Shut, Take, Tell, Write, armed_with, deeds_move, keys_move, life_move, lower_move, move_to, paths_move, setup_move, state_move, timers_move, waiting_move, Hand, told_to_streams, Insert, Switch, Retire, Issue, Say, Spend, Unseal, Discard}
+use Rattle.qc_state.specs.Moves.{Accept, Ack, AreNext, Arm, Begin, Establish, Fail, Finish, Fire, Forget, Give, Hear, IsTold, Move, PeerCloses, PeerClosesToo, Probe, Raise, Seal, Shut, Take, Tell, Write, armed_with, deeds_move, keys_move, life_move, lower_move, move_to, paths_move, setup_move, state_move, timers_move, waiting_move, Hand, told_to_streams, Insert, Switch, Retire, Issue, Say, Spend, Unseal, Discard, Update}
 use Rattle.qc_state.specs.Paths.{is_blocked, path_accepted, path_kept, path_spun, peer_fixed, path_named, path_capped}
 use Rattle.qc_state.specs.Recovering.{around_of, fired_by, is_validated_by_peer, loss_time, settled_by, probe_timeout_now}
 use Rattle.qc_state.specs.Sending.{flown_after, is_flown, packet_size, sealed_in, spent_after}
@@ -50,7 +50,7 @@ use Rattle.qc_state.specs.Receiving.{is_below}
 use Rattle.qc_state.specs.Setup.{packet_drawn, parameters_known, token_expected, word_drawn}
 use Rattle.qc_state.specs.Spaces.{is_space}
 use Rattle.qc_state.proofs.Quieted.{quiet_blocked}
-use Rattle.qc_state.proofs.KeySteps.{RingMoves, acked_moves, discarded_moves, keeping_same, no_ring_moves, opened_moves, same_keys}
+use Rattle.qc_state.proofs.KeySteps.{RingMoves, acked_moves, discarded_moves, keeping_same, no_ring_moves, opened_moves, same_keys, updated_moves}
 use Rattle.qc_state.proofs.Probed.{begun_streams}
 use Rattle.qc_laws.proofs.CryptoPlaces.{dropped_highest, dropped_keys, used_highest}
 use Rattle.qc_laws.proofs.TimerProbes.{Before, before_probes, dropped_keyed, failed_same, forget_before, form_keyed, given_below, given_confirmed, given_more, given_probe, probe_parts, unknown_confirmed, used_same}
@@ -403,6 +403,7 @@ module _ {t : Types} where
   plain_spaces m (Begin space opens) s k h = λ id. begun_space space opens s id (h id)
   plain_spaces m Fail s k h = λ id. fail_space s id (h id)
   plain_spaces m (Unseal time n which fresh session) s k h = λ id. less_space s (state_move (Unseal time n which fresh session) s) id (opened_moves s.keys which n fresh) (less_here (recovery.space_of id s.lower.recovery)) (h id)
+  plain_spaces m (Update fresh session) s k h = λ id. less_space s (state_move (Update fresh session) s) id (updated_moves s.keys fresh) (less_here (recovery.space_of id s.lower.recovery)) (h id)
   plain_spaces m Discard s k h = λ id. less_space s (state_move Discard s) id (discarded_moves s.keys) (less_here (recovery.space_of id s.lower.recovery)) (h id)
   plain_spaces m _ s k h = λ id. record { flight = (h id).flight; keyed = (h id).keyed; below = (h id).below }
 
@@ -453,6 +454,7 @@ module _ {t : Types} where
   plain_probe m (Forget space) s k h e = before_probes s (state_move (Forget space) s) (forget_move space s k) e
   plain_probe m (Write bytes keys session) s k h e = before_probes s (state_move (Write bytes keys session) s) (write_before bytes keys session s k h) e
   plain_probe m (Unseal time n which fresh session) s k h e = before_probes s (state_move (Unseal time n which fresh session) s) (less_before s (state_move (Unseal time n which fresh session) s) refl (opened_moves s.keys which n fresh) (λ id. less_here (recovery.space_of id s.lower.recovery))) e
+  plain_probe m (Update fresh session) s k h e = before_probes s (state_move (Update fresh session) s) (less_before s (state_move (Update fresh session) s) refl (updated_moves s.keys fresh) (λ id. less_here (recovery.space_of id s.lower.recovery))) e
   plain_probe m Discard s k h e = before_probes s (state_move Discard s) (less_before s (state_move Discard s) refl (discarded_moves s.keys) (λ id. less_here (recovery.space_of id s.lower.recovery))) e
   plain_probe m (Begin space opens) s k h e = subst (λ (l : Lower t.S). must_probe (record s { lower = l }) ≡ true) (begun_streams space opens s) e
   plain_probe m _ s k h e = e

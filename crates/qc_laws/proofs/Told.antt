@@ -14,13 +14,15 @@ use Rattle.qc_state.specs.Forms.{number_space}
 use Rattle.qc_state.specs.Headline as headline
 use Rattle.qc_state.specs.Headline.{deeds_of, reasons_in, lives_in, entered_in, EachNew, CloseFrom, RisesFrom, Kernel, IsBehind, Tells, EachRises, EachAdmitted, LifeRises, OnlyCloses, LosesOnce}
 use Rattle.qc_state.specs.Life.{rank_of, is_open, ready_reported, connected_reported, lost_reported, notice_reported, notices_reported, drained_reported, all_heard_reported}
-use Rattle.qc_state.specs.Moves.{Ask, Take, Seal, Shut, state_move, move_to, MayMove, numbers_move, keys_move, life_move, timers_move, Call, Post, Issue}
+use Rattle.qc_state.specs.Moves.{Ask, Take, Seal, Shut, state_move, move_to, MayMove, numbers_move, keys_move, life_move, timers_move, Call, Post, Issue, Update}
 use Rattle.qc_state.specs.Numbers.{next_number, came_in}
 use Rattle.qc_state.specs.Run.{time_of, began, close_after, input_after, called, reported, step_after, IsAllowed, IsStep, Run, Ran, datagram_limit}
 use Rattle.qc_state.specs.Sending.{transmit_after, MayTransmit, packet_size, Choice}
 use Rattle.qc_state.specs.Timers.{clock_set}
 use Rattle.qc_state.specs.Types.{Types, Meaning}
 use Rattle.qc_state.specs.View.{View, At}
+use Rattle.qc_state.specs.Updating.{fresh_now}
+use Rattle.qc_state.proofs.Updates.{holds_updated}
 use Rattle.qc_state.proofs.Telling.{behind_here, tells_append, rises, reasons, lives, closes, admits, one_at_most, open_rank, kernel, Told, told_here, told_next, told_move}
 use Rattle.qc_state.proofs.Expired.{holds_timeout}
 use Rattle.qc_laws.proofs.ToldReceiving.{told_datagram}
@@ -59,6 +61,7 @@ module _ {t : Types} where
   told_input id m (input.Transmit time max) choice a h = told_transmit id m time max choice a h
   told_input id m (input.Close time code reason) choice a h = closed_by id time _ a _ refl
   told_input id m (input.Ping time) choice a h = told_move id (Ask a.state.keys.highest) a tt
+  told_input id m (input.Update time) choice a h = holds_updated m (Told id) (told_here id) (λ b may. told_move id (Update (fresh_now m b.state) (m.after_next b.state.lower.session)) b may) a
   told_input id m (input.SendDatagram time body) choice a h = told_move id (Post (datagrams.Sent (datagram_limit a.state) true body)) a refl
   told_input id m (input.RecvDatagram time) choice a h = told_move id (Post datagrams.Taken) a refl
   told_input id m (input.Identifiers time given) choice a h = told_move id (Issue time given) a h

@@ -1,5 +1,5 @@
 -- Over a run the bytes in flight keep within the congestion window.
-use Rattle.std.proofs.Common.{◌≡◌, ◌⊎◌, inl, inr, ℕ, ◌+◌, ◌-◌, ◌<◌, ◌≤◌, List, [], ◌∷◌, ◌++◌, refl, ap, sym, ◌∙◌, subst, Bool, true, false, Some, None, if◌then◌else◌, append_assoc, arith}
+use Rattle.std.proofs.Common.{◌≡◌, ◌⊎◌, inl, inr, ℕ, ◌+◌, ◌-◌, ◌<◌, ◌≤◌, List, [], ◌∷◌, ◌++◌, refl, ap, sym, ◌∙◌, subst, Bool, true, false, Option, Some, None, if◌then◌else◌, append_assoc, arith}
 use Rattle.std.specs.Prelude.{IsPermutation, cond, is_none, is_some, nat_le, not, ◌==◌, ◌||◌, ◌&&◌}
 use Rattle.std.specs.List.{list_any}
 use Rattle.std.proofs.lemmas.Bool.Decides.{nat_tests}
@@ -45,19 +45,22 @@ use Rattle.qc_state.specs.Forms.{is_early, number_space}
 use Rattle.qc_state.specs.Keys.{epoch_in, has_keys}
 use Rattle.qc_state.specs.Life.{is_open}
 use Rattle.qc_state.specs.Lower.{bytes_came, datagrams_stepped, event_told, events_told, flight_dropped, frame_handed, frames_sealed, ids_stepped, limits_learned, packet_flown, packets_settled, session_read, session_wrote, streams_closed, streams_stepped, timer_fired}
-use Rattle.qc_state.specs.Moves.{Ack, Arm, Ask, Begin, Call, Fire, Forget, Issue, Move, Post, Probe, Seal, Shut, Skip, Spend, Take, armed_with, Give, deeds_move, lower_move, move_to, numbers_move, paths_move, state_move, waiting_move}
+use Rattle.qc_state.specs.Moves.{Ack, Arm, Ask, Begin, Call, Fire, Forget, Issue, Move, Post, Probe, Seal, Shut, Skip, Spend, Take, armed_with, Give, deeds_move, lower_move, move_to, numbers_move, paths_move, state_move, waiting_move, Update}
 use Rattle.qc_state.specs.Numbers.{next_number}
 use Rattle.qc_state.specs.Offers.{datagram_waits, short_room, waits_in, wants_sending}
 use Rattle.qc_state.specs.Paths.{is_blocked_behind, path_kept}
 use Rattle.qc_state.specs.Receiving.{datagram_after}
 use Rattle.qc_state.specs.Recovering.{fired_by, settled_by}
 use Rattle.qc_state.specs.Run.{IsAllowed, IsStep, Run, began, called, close_after, datagram_limit, input_after, reported, step_after, time_of}
-use Rattle.qc_state.specs.Sending.{Choice, Died, Ending, Going, Held, Hushed, MayAll, MayEnd, MayFollow, MayOpen, MayProbe, MayStand, MayTransmit, Probed, Sent, Went, batch_grown, batch_opened, begun_after, begun_batch, ending_after, flown_after, going_from, gone_after, held_in, is_congested, is_eager, is_flown, is_in_order, is_key_nearly_used_up, is_last_in, limit_in, next_segment, owes_in, packet_after, packet_size, packets_after, paced_until, probe_begun_after, probe_frames, probe_sealed, probed_after, sealed_in, spared_after, spent_after, takes_another, transmit_after, wants_in}
+use Rattle.qc_state.specs.Batches.{batch_grown, batch_opened, is_in_order, is_last_in, next_segment, takes_another}
+use Rattle.qc_state.specs.Sending.{Choice, Died, Ending, Going, Held, Hushed, MayAll, MayEnd, MayFollow, MayOpen, MayProbe, MayStand, MayTransmit, Probed, Sent, Went, begun_after, begun_batch, ending_after, flown_after, going_from, gone_after, held_in, is_congested, is_eager, is_flown, is_key_nearly_used_up, limit_in, owes_in, packet_after, packet_size, packets_after, paced_until, probe_begun_after, probe_frames, probe_sealed, probed_after, sealed_in, spared_after, spent_after, transmit_after, wants_in, going_tried, going}
 use Rattle.qc_state.specs.Spaces.{is_space, space_of}
 use Rattle.qc_state.specs.Stopping.{given_after, stopped_after}
 use Rattle.qc_state.specs.Timeouts as timeouts
 use Rattle.qc_state.specs.Types.{Types, Meaning}
 use Rattle.qc_state.specs.View.{View, At}
+use Rattle.qc_state.specs.Updating.{fresh_now, tried_after}
+use Rattle.qc_state.proofs.Updates.{holds_updated}
 use Rattle.qc_laws.specs.WindowLaws.{EachKeepsWindow, KeepsWindow, in_flight, is_exempt, seals_probe, window_of}
 use Rattle.qc_state.proofs.Batches.{joins_some, opened_most}
 use Rattle.qc_state.proofs.Begun.{begun_same, holds_begun}
@@ -69,7 +72,7 @@ use Rattle.qc_state.proofs.Quieted.{probed_current}
 use Rattle.qc_state.proofs.Probing.{due_searched, probe_paths}
 use Rattle.qc_state.proofs.ReceivedMoves.{IsOutside}
 use Rattle.qc_state.proofs.Telling.{told_appends}
-use Rattle.qc_state.proofs.Transmitted.{IsPacketMove, IsSending, IsUnprobed, holds_ending, holds_packets, holds_spared, holds_unprobed}
+use Rattle.qc_state.proofs.Transmitted.{IsPacketMove, IsSending, IsUnprobed, holds_ending, holds_packets, holds_spared, holds_unprobed, holds_packet as holds_sealing, beginning_packet}
 use Rattle.qc_laws.proofs.CryptoPlaces.{FiresIn, ack_flight, ack_other, fired_flight, same_or}
 use Rattle.qc_laws.proofs.InitialLeft.{flown_deeds, packet_deeds, sealed_deed, sealed_deeds}
 use Rattle.qc_laws.proofs.KnownMoves.{IsFiredBy, IsSettledBy, packet_known}
@@ -77,6 +80,8 @@ use Rattle.qc_laws.proofs.Receives.{datagram_holds}
 use Rattle.qc_laws.proofs.SpacesApart.{further, packet_probes, packet_wants}
 use Rattle.qc_laws.proofs.StreamCalls.{called_input}
 use Rattle.qc_datagrams.specs.Steps as datagrams
+use Rattle.qc_state.proofs.Tried.{holds_tried, tried_same}
+use Rattle.qc_state.specs.declared.keys.Fresh.{Fresh}
 
 -- ---- sums
 
@@ -316,6 +321,7 @@ module _ {t : Types} where
   unfolding move_to state_move paths_move path_kept
   window_move (Begin id opens) r a = refl
   window_move Skip r a = refl
+  window_move (Update fresh session) r a = refl
   window_move (Spend tokens) r a = refl
   window_move (Arm at) r a = refl
   window_move _ r a = absurd r
@@ -326,7 +332,7 @@ module _ {t : Types} where
 
   window_packet : (m : Meaning t) (time : ℕ) (p : Sent) (g : Going t) → MayFollow m time g.now.state g.batch p → SameWindow g.now (packet_after m time p g).now
   window_packet m time p g may =
-      holds_packets SameWindow (λ a. refl) (λ a b c g h. h ∙ g) (λ x r a h. window_move x r a) (λ time form fs a h. window_seal time _ _ form fs a) m time (p ∷ []) g (may, tt)
+      holds_sealing SameWindow (λ a. refl) (λ a b c g h. h ∙ g) (λ x r a h. window_move x (beginning_packet x r) a) (λ time form fs a h. window_seal time _ _ form fs a) m time p g may
 
   -- a deed that was done stays done
   abbrev Does : (Did → Bool) → At t → At t → Type 0
@@ -462,10 +468,28 @@ module _ {t : Types} where
       by_probes false due =
           inl (packet_exempt m time p a.state g (probed (wants_in a.state id) ((space_of a.state.waiting.spaces id).probes == 0) (ap (λ (n : ℕ). n == 0) (sym (h.probes id)) ∙ due)))
 
+  -- an update of the keys leaves what waits in a space
+  wants_risen : (fresh : Option (Fresh t.P)) (session : t.S) (s : View t) (id : SpaceId) → wants_in (state_move (Update fresh session) s) id ≡ wants_in s id
+  unfolding state_move numbers_move paths_move waiting_move lower_move wants_sending datagram_waits short_room
+  wants_risen fresh session s Initial = refl
+  wants_risen fresh session s Handshake = refl
+  wants_risen fresh session s «Data» = refl
+
+  -- an update that is tried for a packet leaves that
+  stays_updated : (m : Meaning t) (fresh : Option (Fresh t.P)) (session : t.S) (a : At t) (g : Going t) → Stays m a g → Stays m a (going (move_to (Update fresh session) g.now) g.batch g.out)
+  unfolding move_to state_move paths_move waiting_move lower_move
+  stays_updated m fresh session a g h = record { window = h.window; probes = h.probes; behind = λ id order last. wants_risen fresh session g.now.state id ∙ h.behind id order last; under = h.under }
+
+  stays_tried : (m : Meaning t) (f : Form) (a : At t) (g : Going t) → Stays m a g → Stays m a (going_tried m f g)
+  stays_tried m f a g =
+      holds_tried m (λ (b c : At t). Stays m a (going b g.batch g.out) → Stays m a (going c g.batch g.out)) (λ b h. h) (λ b may h. stays_updated m _ _ a (going b g.batch g.out) h) f g.now
+
   keeps_packets : (m : Meaning t) (time : ℕ) (ps : List Sent) (a : At t) (g : Going t) → MayAll m time g ps → Keeps m a g → Keeps m a (packets_after m time ps g)
   keeps_packets m time [] a g may h = h
   keeps_packets m time (p ∷ ps) a g may (inl some) = inl (does_packets (is_exempt a.state) m time (p ∷ ps) g may some)
-  keeps_packets m time (p ∷ ps) a g may (inr h) = keeps_packets m time ps a (packet_after m time p g) may.1 (keeps_packet m time p a g may.0 h)
+  keeps_packets m time (p ∷ ps) a g may (inr h) =
+      let f : Going t = going_tried m p.form g in
+      keeps_packets m time ps a (packet_after m time p f) may.1 (keeps_packet m time p a f may.0 (stays_tried m p.form a g h))
 
   -- how it ends puts no more bytes in flight, but with a probe of the path's size
   unprobed_window : (m : Meaning t) (time : ℕ) (e : Ending) (a : At t) (g : Going t) → IsUnprobed e → Keeps m a g → MayEnd m time e g.now.state g.batch →
@@ -555,11 +579,13 @@ module _ {t : Types} where
 
   keeps_window : (m : Meaning t) (time : ℕ) (e : Ending) (a : At t) (g : Going t) → Keeps m a g → MayEnd m time e g.now.state g.batch → KeepsWindow m (ending_after m time e g.batch g.now).did a.state (ending_after m time e g.batch g.now).state
   unfolding KeepsWindow ending_after
-  keeps_window m time (Probed quiet size) a g h ends = λ more. inr (inr (probe_seals m time size quiet g.batch g.now ends.0))
+  keeps_window m time (Probed quiet size) a g h ends =
+      let c : At t = tried_after m form.OneRtt g.now in
+      λ more. inr (inr (probe_seals m time size quiet g.batch c (subst (λ (s : View t). MayProbe m time s g.batch quiet size) (sym (tried_same m form.OneRtt g.now)) ends.0)))
   keeps_window m time Went a g h ends = unprobed_window m time Went a g tt h ends
   keeps_window m time Held a g h ends = unprobed_window m time Held a g tt h ends
   keeps_window m time (Hushed quiet) a g h ends = unprobed_window m time (Hushed quiet) a g tt h ends
-  keeps_window m time (Died why) a g h ends = unprobed_window m time (Died why) a g tt h ends
+  keeps_window m time (Died f why) a g h ends = unprobed_window m time (Died f why) a g tt h ends
 
   transmit_window : (m : Meaning t) (time asked : ℕ) (choice : Choice) (a : At t) → MayTransmit m time asked choice a → KeepsWindow m (transmit_after m time asked choice a).did a.state (transmit_after m time asked choice a).state
   unfolding MayTransmit transmit_after gone_after
@@ -594,6 +620,7 @@ module _ {t : Types} where
   input_window m (input.Transmit time max) choice a may = transmit_window m time max choice a may
   input_window m (input.Close time code reason) choice a may = fewer_window m a _ (closed_by m time _ a (is_open a.state.life.state))
   input_window m (input.Ping time) choice a may = fewer_window m a _ (move_fewer m (Ask a.state.keys.highest) a tt)
+  input_window m (input.Update time) choice a may = fewer_window m a _ (holds_updated m Fewer fewer_here (λ b may_be. move_fewer m (Update (fresh_now m b.state) (m.after_next b.state.lower.session)) b tt) a)
   input_window m (input.SendDatagram time body) choice a may = fewer_window m a _ (move_fewer m (Post (datagrams.Sent (datagram_limit a.state) true body)) a tt)
   input_window m (input.RecvDatagram time) choice a may = fewer_window m a _ (move_fewer m (Post datagrams.Taken) a tt)
   input_window m (input.Identifiers time given) choice a may = fewer_window m a _ (move_fewer m (Issue time given) a tt)

@@ -151,6 +151,7 @@ module _ {t : Types} where
   called_deeds m (input.Transmit time max) choice a h = cc
   called_deeds m (input.Close time code reason) choice a h = cc
   called_deeds m (input.Ping time) choice a h = cc
+  called_deeds m (input.Update time) choice a h = cc
   called_deeds m (input.SendDatagram time body) choice a h = cc
   called_deeds m (input.RecvDatagram time) choice a h = cc
   called_deeds m (input.Identifiers time given) choice a h = cc

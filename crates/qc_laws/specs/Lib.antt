@@ -22,3 +22,5 @@ pub mod TimerLaws
 pub mod UpdateLaws
 pub mod WindowLaws
 pub mod WriteLaws
+pub mod MirrorLaws
+pub mod FitLaws

@@ -1,7 +1,8 @@
 -- Laws over whole runs, said of the bytes of packets, and of the datagrams that they make (RFC 9000, sections 12.2 and 17; RFC 9001, sections 5 and 6).
-use Rattle.std.specs.Prelude.{◌≡◌, ℕ, ◌+◌, ◌<◌, ◌^◌, min, zero, suc, Bool, true, List, [], ◌∷◌, ◌++◌, length, map, take, drop, Option, None, Some}
+use Rattle.std.specs.Prelude.{◌≡◌, ◌⊎◌, ℕ, ◌+◌, ◌<◌, ◌^◌, min, zero, suc, Bool, true, List, [], ◌∷◌, ◌++◌, length, map, take, drop, Option, None, Some}
 use Rattle.std.specs.Option.{option_map}
 use Rattle.qc_base.specs.PacketNumber.{number_of}
+use Rattle.qc_base.specs.Time.{plus}
 use Rattle.qc_base.specs.declared.packet_number.PacketNumber.{PacketNumber}
 use Rattle.qc_base.specs.declared.side.LongType.TheVariants as long
 use Rattle.qc_base.specs.declared.side.SpaceId.{SpaceId}
@@ -18,17 +19,19 @@ use Rattle.qc_state.specs.declared.deeds.Did.TheVariants as did
 use Rattle.qc_state.specs.declared.form.Form.{Form}
 use Rattle.qc_state.specs.declared.form.Form.TheVariants as form
 use Rattle.qc_state.specs.declared.input.Input.{Input}
+use Rattle.qc_state.specs.declared.keys.OneRttKeys.{OneRttKeys}
 use Rattle.qc_state.specs.declared.input.Input.TheVariants as input
 use Rattle.qc_state.specs.declared.trace.Answer.{Answer}
 use Rattle.qc_state.specs.declared.trace.Answer.TheVariants as answer
 use Rattle.qc_state.specs.declared.trace.Step.{Step}
 use Rattle.qc_state.specs.declared.transmit.Transmit.{Transmit}
-use Rattle.qc_state.specs.Forms.{is_early, number_space}
+use Rattle.qc_state.specs.Forms.{is_early, is_one_rtt, number_space}
 use Rattle.qc_state.specs.Keys.{epoch_in, header_key, packet_key}
 use Rattle.qc_state.specs.Run.{IsStep}
 use Rattle.qc_state.specs.Setup.{takes_grease}
 use Rattle.qc_state.specs.Spaces.{space_of}
 use Rattle.qc_state.specs.Types.{Types, Meaning}
+use Rattle.qc_state.specs.Updating.{may_update_now}
 use Rattle.qc_state.specs.View.{View, At}
 
 -- ---- datagrams
@@ -58,20 +61,30 @@ module _ {t : Types} where
   abbrev pub spelled_number : View t → Form → (number : ℕ) → PacketNumber
   spelled_number s f n = number_of n (min (space_of s.numbers.spaces (number_space f)).largest_acked n)
 
-  -- the header of a packet of this form with this number and spin bit, by the view as its transmit began: with the ids in use, with the version
-  -- and the token of an Initial packet, where its form has them, and in a 1-RTT packet with the parity of its key's epoch as key phase (RFC
-  -- 9000, sections 17.2.2 to 17.2.4 and 17.3.1; RFC 9001, section 6)
-  abbrev pub header_of : View t → Form → (spin : Bool) → (number : ℕ) → Header
-  header_of s form.Initial spin n = header.Initial (record {
+  -- the key of the next epoch that seals 1-RTT packets, where there are such keys
+  abbrev pub next_key : View t → Option t.P
+  next_key s = option_map (λ (k : OneRttKeys t.H t.P). k.ring.next.local) s.keys.«data»
+
+  -- This key of this epoch may seal packets of this form in a transmit, by the view as it began: it is that of the form, in its epoch; or the next one of
+  -- 1-RTT packets, where this end may update its keys (RFC 9001, section 6.1).
+  abbrev pub IsKeyIn : View t → Form → (epoch : ℕ) → t.P → Type 0
+  IsKeyIn s f epoch key =
+      ((epoch ≡ epoch_in s.keys f) × (packet_key s.keys f ≡ Some key)) ⊎ ((is_one_rtt f ≡ true) × (may_update_now s ≡ true) × (epoch ≡ plus (epoch_in s.keys f) 1) × (next_key s ≡ Some key))
+
+  -- the header of a packet of this form with this number and spin bit, under a key of this epoch, by the view as its transmit began: with the ids in
+  -- use, with the version and the token of an Initial packet, where its form has them, and in a 1-RTT packet with the parity of its key's epoch as
+  -- key phase (RFC 9000, sections 17.2.2 to 17.2.4 and 17.3.1; RFC 9001, section 6)
+  abbrev pub header_of : View t → Form → (spin : Bool) → (epoch number : ℕ) → Header
+  header_of s form.Initial spin epoch n = header.Initial (record {
     dst_cid = s.paths.current.remote_cid;
     src_cid = s.setup.fixed.local_cid;
     token = s.setup.initial_token;
     number = spelled_number s form.Initial n;
     version = s.setup.fixed.version;
   })
-  header_of s form.Handshake spin n = header.Long long.Handshake s.paths.current.remote_cid s.setup.fixed.local_cid (spelled_number s form.Handshake n) s.setup.fixed.version
-  header_of s form.Early spin n = header.Long long.ZeroRtt s.paths.current.remote_cid s.setup.fixed.local_cid (spelled_number s form.Early n) s.setup.fixed.version
-  header_of s form.OneRtt spin n = header.Short spin (phase_of (epoch_in s.keys form.OneRtt)) s.paths.current.remote_cid (spelled_number s form.OneRtt n)
+  header_of s form.Handshake spin epoch n = header.Long long.Handshake s.paths.current.remote_cid s.setup.fixed.local_cid (spelled_number s form.Handshake n) s.setup.fixed.version
+  header_of s form.Early spin epoch n = header.Long long.ZeroRtt s.paths.current.remote_cid s.setup.fixed.local_cid (spelled_number s form.Early n) s.setup.fixed.version
+  header_of s form.OneRtt spin epoch n = header.Short spin (phase_of epoch) s.paths.current.remote_cid (spelled_number s form.OneRtt n)
 
   -- The fields of a packet have room for what this end puts there: its ids and the peer's have at most 20 bytes (RFC 9000, section 17.2); its
   -- version has 32 bits, and isn't 0, which is that of a Version Negotiation (section 17.2.1); and no CRYPTO stream is longer than an offset
@@ -88,19 +101,18 @@ module _ {t : Types} where
     pub crypto : (id : SpaceId) → (space_of s.waiting.spaces id).crypto.written < 2 ^ 62 → (space_of s'.waiting.spaces id).crypto.written < 2 ^ 62
 
   -- A packet that was sealed so, as it is told of: in this space, with this number and these frames, by a key of this epoch, early or not. It is
-  -- of a form of that space, and sealed under the keys that the view has for this form as the transmit begins, whose epoch is that one. Its header
+  -- of a form of that space, and sealed under the key of that epoch which the view has for this form as the transmit begins. Its header
   -- is that form's; its spin bit is the path's, where the connection spins; its fixed bit is flipped only where the peer takes that (RFC 9287); its
   -- payload is the spelling of its frames, each of which fits its fields.
   pub record IsSealedAs (m : Meaning t) (s : View t) (space : SpaceId) (number epoch : ℕ) (early : Bool) (frames : List FrameValue) (p : SealedAs t.P) : Type 0 where
     pub form : Form
     pub in_space : space ≡ number_space form
     pub numbered : p.number ≡ number
-    pub of_epoch : epoch ≡ epoch_in s.keys form
     pub zero_rtt : early ≡ is_early form
     pub masked : option_map m.mask (header_key s.keys form) ≡ Some p.mask
-    pub sealer : packet_key s.keys form ≡ Some p.sealer
+    pub sealer : IsKeyIn s form epoch p.sealer
     pub spin : Bool
-    pub header : p.header ≡ header_of s form spin number
+    pub header : p.header ≡ header_of s form spin epoch number
     pub spins : s.setup.fixed.spins ≡ true → spin ≡ s.paths.spin
     pub flips : p.flip ≡ true → takes_grease s.setup.peer ≡ true
     pub payload : p.plain ≡ frames_spelling frames

@@ -12,7 +12,7 @@ use Rattle.qc_state.specs.declared.deeds.Did.{Did}
 use Rattle.qc_state.specs.declared.deeds.Did.TheVariants as did
 use Rattle.qc_state.specs.declared.deeds.Layer.TheVariants as layer
 use Rattle.qc_state.specs.declared.input.Input.{Input}
-use Rattle.qc_state.specs.declared.input.Input.TheVariants.{Close, Datagram, Ping, Timeout, Transmit, SendDatagram, RecvDatagram, Identifiers}
+use Rattle.qc_state.specs.declared.input.Input.TheVariants.{Close, Datagram, Ping, Update, Timeout, Transmit, SendDatagram, RecvDatagram, Identifiers}
 use Rattle.qc_state.specs.declared.trace.Step.{Step as TraceStep}
 use Rattle.qc_state.specs.Headline.{deeds_of, lives_in}
 use Rattle.qc_state.specs.Moves.{Move, Ack, Begin, Call, Fire, Hand, Learn, PeerCloses, PeerClosesToo, Raise, ReportStream, ReportStreams, Shut, Take, is_call}
@@ -76,6 +76,7 @@ is_streams_call (Timeout time) = false
 is_streams_call (Transmit time max) = false
 is_streams_call (Close time code reason) = false
 is_streams_call (Ping time) = false
+is_streams_call (Update time) = false
 is_streams_call (SendDatagram time body) = false
 is_streams_call (RecvDatagram time) = false
 is_streams_call (Identifiers time ids) = false

@@ -18,7 +18,7 @@ use Rattle.qc_state.specs.declared.keys.Fresh.{Fresh}
 use Rattle.qc_state.specs.declared.keys.OneRttKeys.{OneRttKeys}
 use Rattle.qc_state.specs.declared.trace.Step.{Step}
 use Rattle.qc_state.specs.Headline.{deeds_of}
-use Rattle.qc_state.specs.Keys.{epoch_with, reaches_limit, ring_acked, ring_discarded, ring_opened, ring_usage, ring_used}
+use Rattle.qc_state.specs.Keys.{epoch_with, reaches_limit, ring_acked, ring_discarded, ring_may_update, ring_opened, ring_updated, ring_usage, ring_used}
 use Rattle.qc_state.specs.Types.{Types}
 use Rattle.qc_state.specs.View.{View}
 use Rattle.qc_laws.specs.StreamLaws.{is_of}
@@ -26,12 +26,13 @@ use Rattle.qc_laws.specs.StreamLaws.{is_of}
 -- ---- their steps
 
 -- a step of the 1-RTT keys: they are given; a packet of this number was sealed under them; one was opened, by these of them; packets up to this
--- number were acknowledged; those of the epoch before were kept for long enough
+-- number were acknowledged; this end updated them; those of the epoch before were kept for long enough
 pub data KeyStep (H P : Type 0) : Type 0 where
   Given : (keys : OneRttKeys H P) → KeyStep H P
   Sealed : (number : ℕ) → KeyStep H P
   Opened : (number : ℕ) → (which : Which) → (fresh : Option (Fresh P)) → KeyStep H P
   Acknowledged : (largest : ℕ) → KeyStep H P
+  Updated : (fresh : Option (Fresh P)) → KeyStep H P
   Discarded : KeyStep H P
 
 module _ {H P : Type 0} where
@@ -41,6 +42,7 @@ module _ {H P : Type 0} where
   key_step (Sealed n) k = ring_used n k
   key_step (Opened n which fresh) k = ring_opened which n fresh k
   key_step (Acknowledged n) k = ring_acked n k
+  key_step (Updated fresh) k = ring_updated fresh k
   key_step Discarded k = ring_discarded k
 
   -- what steps leave, one after the other
@@ -55,10 +57,12 @@ module _ {H P : Type 0} where
 
   -- Where a step may be made. Keys are given where there are none, in their first epoch, and have sealed nothing. A packet is sealed only under a
   -- key that may seal one more (RFC 9001, section 6.6). An update of the peer's is followed only where the one before was answered (section 6.2).
+  -- This end updates them only where no keys of the epoch before are kept, and a packet of this epoch was acknowledged (sections 6.1 and 6.5).
   abbrev pub MayStep : KeyStep H P → Option (OneRttKeys H P) → Type 0
   MayStep (Given keys) k = (k ≡ None) × (keys.ring.ring ≡ first_ring) × (keys.ring.count ≡ 0)
   MayStep (Sealed n) k = reaches_limit 0 (option_map ring_usage k) ≡ false
   MayStep (Opened n which fresh) k = which ≡ Next → waits_for_answer k ≡ false
+  MayStep (Updated fresh) k = ring_may_update k ≡ true
   MayStep _ k = Unit {0}
 
   -- each as its turn comes

@@ -1,7 +1,8 @@
 //! What follows from the laws of runs.
 
-ghost use Rattle.std.specs.Prelude.{◌≡◌, ◌⊎◌, ◌∷◌, ◌++◌, ◌<◌, ◌^◌, ℕ, length, Bool, true, false, if◌then◌else◌, List, [], Option, Some, Ok};
+ghost use Rattle.std.specs.Prelude.{◌≡◌, ◌⊎◌, ◌∷◌, ◌++◌, ◌≤◌, ◌<◌, ◌^◌, ℕ, length, Bool, true, false, if◌then◌else◌, List, [], Option, Some, Ok};
 ghost use Rattle.qc_base.specs.declared.side.SpaceId.{SpaceId};
+ghost use Rattle.qc_base.specs.declared.side.SpaceId.TheVariants.{«Data»};
 ghost use Rattle.qc_frame.specs.Frame.{FrameValue};
 ghost use Rattle.qc_header.specs.HeaderReading.{piece_at};
 ghost use Rattle.qc_header.specs.Piece.{Piece};
@@ -13,13 +14,16 @@ ghost use Rattle.qc_laws.specs.CidLaws.{HasNewIds, KeepsLength, TellsIssued, Use
 ghost use Rattle.qc_laws.specs.CryptoLaws.{KeepsBytes};
 ghost use Rattle.qc_laws.specs.DatagramLaws.{DatagramHolds};
 ghost use Rattle.qc_laws.specs.EndLaws.{Ends};
+ghost use Rattle.qc_laws.specs.FitLaws.{KeysFit};
 ghost use Rattle.qc_laws.specs.EventLaws.{EachTells, OnlyDoneWaits, TellsOnce, untold_of};
 ghost use Rattle.qc_state.specs.Headline.{deeds_of, accepted_in, is_datagram, AcksOnly, EachAcksKnown, EachNew, Harmless, IsKept, NoneTwice};
 ghost use Rattle.qc_laws.specs.IdLaws.{FoldsIds, IdsHold};
 ghost use Rattle.qc_laws.specs.InitialLaws.{LeavesInitial};
 ghost use Rattle.qc_laws.specs.KeyLaws.{KeysHold};
 ghost use Rattle.qc_laws.specs.MarkLaws.{EachTold};
+ghost use Rattle.qc_state.specs.Numbers.{next_number};
 ghost use Rattle.qc_state.specs.Opening.{opening_of};
+ghost use Rattle.qc_laws.specs.MirrorLaws.{RunMirrors};
 ghost use Rattle.qc_laws.specs.PathLaws.{PathHolds, all_from};
 ghost use Rattle.qc_state.specs.Paths.{same_address};
 ghost use Rattle.qc_laws.specs.PieceLaws.{TellsDatagram, TellsPiece, given_in, piece_deed, piece_gifts, pieces_in};
@@ -125,13 +129,28 @@ pub fn keys_hold<U: Suite>()
 
 /// A law, which runs no code. Over a run the 1-RTT keys are what their own steps leave, one after the other, and each step may be made as its
 /// turn comes: they are given once; a packet is sealed under a key that may seal one more; an update of the peer's is followed only where the one
-/// before was answered. The steps of sealed packets are those of the 1-RTT packets that were sealed, with their epochs, and the steps of opened
+/// before was answered; this end updates them only where it may. The steps of sealed packets are those of the 1-RTT packets that were sealed, with their epochs, and the steps of opened
 /// ones and of acknowledgements those that the deeds tell: each in order, none left out, and none made up. So their epoch never falls, and
 /// 1-RTT packets are sealed under keys of epochs that never do (RFC 9001, 6).
 pub fn keys_are_folded<U: Suite>()
     ensures folded { (s last : View ⟦<U as Means>⟧.types) (k : ℕ) (is : List Input) (xs : List Step) → Run ⟦<U as Means>⟧.meaning k s is xs last → AreLast s → FoldsKeys xs s last }
     ensures epochs { (s last : View ⟦<U as Means>⟧.types) (k : ℕ) (is : List Input) (xs : List Step) → Run ⟦<U as Means>⟧.meaning k s is xs last → AreLast s → KeepsEpochs xs s last }
     ensures last { (s last : View ⟦<U as Means>⟧.types) (k : ℕ) (is : List Input) (xs : List Step) → Run ⟦<U as Means>⟧.meaning k s is xs last → AreLast s → AreLast last }
+{}
+
+/// A law, which runs no code. Over a run the session, the 1-RTT keys and the numbers of 1-RTT packets go by steps of a ledger, from any that shows
+/// the start to one that shows the end: a packet that is sealed, one of the inputs' that is opened, what one acknowledges or gives to a layer, an
+/// update, and keys that are dropped. It is what two connections ask of each one (RFC 9001, 6).
+pub fn runs_mirror<U: Suite>()
+    ensures { (s last : View ⟦<U as Means>⟧.types) (k : ℕ) (is : List Input) (xs : List Step) → Run ⟦<U as Means>⟧.meaning k s is xs last → AreLast s → RunMirrors ⟦<U as Means>⟧.meaning is xs s last }
+{}
+
+/// A law, which runs no code. Over a run the 1-RTT keys stay the session's, each of its epoch (RFC 9001, 6.1): header keys those of the Data space,
+/// packet keys those of the ring's epoch, of the next one and of the one before, with the limits of the key that seals; the session gave keys up to
+/// the next epoch, and no further. Epochs are no more than twice as many as numbers, and one. It is said while packet numbers have their range
+/// (RFC 9000, 12.3).
+pub fn keys_fit_their_session<U: Suite>()
+    ensures { (s last : View ⟦<U as Means>⟧.types) (k : ℕ) (is : List Input) (xs : List Step) → Run ⟦<U as Means>⟧.meaning k s is xs last → AreLast s → next_number last.numbers «Data» ≤ 4611686018427387904 → KeysFit ⟦<U as Means>⟧.meaning U.Session.Session s → KeysFit ⟦<U as Means>⟧.meaning U.Session.Session last }
 {}
 
 /// A law, which runs no code. Over a run a connection of which an end has closed comes to its end: while it is closed, or drains, the

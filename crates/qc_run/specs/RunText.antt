@@ -112,6 +112,7 @@ settings_of s =
       secret = unwrap_or s.secret default_settings.secret;
       limit_initial = unwrap_or s.limit_initial default_settings.limit_initial;
       limit_handshake = unwrap_or s.limit_handshake default_settings.limit_handshake;
+      limit_data = unwrap_or s.limit_data default_settings.limit_data;
       limit_failures = unwrap_or s.limit_failures default_settings.limit_failures;
     }
 

@@ -80,6 +80,7 @@ fn settings_with(set: &Settings) -> ToySettings
         secret: set.secret.unwrap_or(usual.secret),
         limit_initial: set.limit_initial.unwrap_or(usual.limit_initial),
         limit_handshake: set.limit_handshake.unwrap_or(usual.limit_handshake),
+        limit_data: set.limit_data.unwrap_or(usual.limit_data),
         limit_failures: set.limit_failures.unwrap_or(usual.limit_failures),
         ..usual
     }

@@ -34,6 +34,7 @@ fn a_client_is_called_directly(rt: HostRuntime) -> Result<(), Fail> {
         secret: None,
         limit_initial: None,
         limit_handshake: None,
+        limit_data: None,
         limit_failures: None,
         idle: None,
         mtud: None,

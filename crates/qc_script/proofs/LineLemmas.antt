@@ -9,7 +9,7 @@ use Rattle.qc_base.specs.declared.ecn.EcnCodepoint.{EcnCodepoint}
 use Rattle.qc_base.specs.declared.ids.IssuedCid.{IssuedCid}
 use Rattle.qc_base.specs.declared.side.Dir.{Dir}
 use Rattle.qc_state.specs.declared.input.Input.{Input}
-use Rattle.qc_state.specs.declared.input.Input.TheVariants.{Datagram, Timeout, Transmit, Open, Accept, Write, Finish, ResetSend, StopRecv, Read, SendDatagram, RecvDatagram, Close, Ping, Identifiers, MaxStreams, SendWindow, ReceiveWindow}
+use Rattle.qc_state.specs.declared.input.Input.TheVariants.{Datagram, Timeout, Transmit, Open, Accept, Write, Finish, ResetSend, StopRecv, Read, SendDatagram, RecvDatagram, Close, Ping, Update, Identifiers, MaxStreams, SendWindow, ReceiveWindow}
 use Rattle.qc_script.specs.Fields.{hex_field, address_text, dir_text, ecn_text, IsAddress, AreFields, Begins}
 use Rattle.qc_script.specs.Script.{ids_text, input_line, AreIssued, IsWithin, IsNext, IsLineRead, IsOfStreams, IsCallRead}
 use Rattle.qc_script.proofs.IdLemmas.{ids_front, ids_injective}
@@ -34,6 +34,7 @@ word_of (SendDatagram now body) = codes "send"
 word_of (RecvDatagram now) = codes "recv"
 word_of (Close now code reason) = codes "close"
 word_of (Ping now) = codes "ping"
+word_of (Update now) = codes "update"
 word_of (Identifiers now ids) = codes "ids"
 word_of (MaxStreams now dir count) = codes "streams"
 word_of (SendWindow now size) = codes "sendwindow"
@@ -55,6 +56,7 @@ fields_of (SendDatagram now body) = decimal now ++ 32 ∷ hex_field body
 fields_of (RecvDatagram now) = decimal now
 fields_of (Close now code reason) = decimal now ++ 32 ∷ (decimal code ++ 32 ∷ hex_field reason)
 fields_of (Ping now) = decimal now
+fields_of (Update now) = decimal now
 fields_of (Identifiers now ids) = decimal now ++ ids_text ids
 fields_of (MaxStreams now dir count) = decimal now ++ 32 ∷ (dir_text dir ++ 32 ∷ decimal count)
 fields_of (SendWindow now size) = decimal now ++ 32 ∷ decimal size
@@ -77,6 +79,7 @@ line_parts (SendDatagram now body) = simp append_assoc
 line_parts (RecvDatagram now) = simp append_assoc
 line_parts (Close now code reason) = simp append_assoc
 line_parts (Ping now) = simp append_assoc
+line_parts (Update now) = simp append_assoc
 line_parts (Identifiers now ids) = simp append_assoc
 line_parts (MaxStreams now dir count) = simp append_assoc
 line_parts (SendWindow now size) = simp append_assoc
@@ -102,6 +105,7 @@ letters (SendDatagram now body) = 257
 letters (RecvDatagram now) = 245
 letters (Close now code reason) = 311
 letters (Ping now) = 254
+letters (Update now) = 333
 letters (Identifiers now ids) = 220
 letters (MaxStreams now dir count) = 326
 letters (SendWindow now size) = 344
@@ -123,6 +127,7 @@ line_letters (SendDatagram now body) = refl
 line_letters (RecvDatagram now) = refl
 line_letters (Close now code reason) = refl
 line_letters (Ping now) = refl
+line_letters (Update now) = refl
 line_letters (Identifiers now ids) = refl
 line_letters (MaxStreams now dir count) = refl
 line_letters (SendWindow now size) = refl
@@ -145,6 +150,7 @@ no_set (SendDatagram now body) e = omega (arith, e)
 no_set (RecvDatagram now) e = omega (arith, e)
 no_set (Close now code reason) e = omega (arith, e)
 no_set (Ping now) e = omega (arith, e)
+no_set (Update now) e = omega (arith, e)
 no_set (Identifiers now ids) e = omega (arith, e)
 no_set (MaxStreams now dir count) e = omega (arith, e)
 no_set (SendWindow now size) e = omega (arith, e)
@@ -227,6 +233,10 @@ pub no_ping : (digits : List ℕ) → ((now : ℕ) → now < 2 ^ 64 → digits �
 no_ping digits none (Ping now) h = none now h.within (next_fields (codes "ping") digits (Ping now) refl h)
 no_ping digits none i h = let e : 254 ≡ letters i = text_letters (codes "ping " ++ digits) i h in omega (arith, e)
 
+pub no_update : (digits : List ℕ) → ((now : ℕ) → now < 2 ^ 64 → digits ≢ decimal now) → (i : Input) → IsNext (codes "update " ++ digits) i → ⊥
+no_update digits none (Update now) h = none now h.within (next_fields (codes "update") digits (Update now) refl h)
+no_update digits none i h = let e : 333 ≡ letters i = text_letters (codes "update " ++ digits) i h in omega (arith, e)
+
 pub no_ids : (fields : List ℕ) → ((now : ℕ) (rest : List ℕ) → Begins (2 ^ 64) fields now rest → (ids : List IssuedCid) → AreIssued ids → 32 ∷ rest ≢ ids_text ids) → (i : Input) → IsNext (codes "ids " ++ fields) i → ⊥
 no_ids fields none (Identifiers now ids) h =
     let front = ids_front ids h.within.1 in
@@ -262,32 +272,33 @@ no_call text opens accepts writes finishes resets stops reads streams sendwindow
 no_call text opens accepts writes finishes resets stops reads streams sendwindows recvwindows _ of h = absurd of
 
 -- and what is no such call, with none of the other words either, is the line of no input
-no_word : (text : List ℕ) → ((rest : List ℕ) → text ≢ codes "datagram " ++ rest) → ((rest : List ℕ) → text ≢ codes "timeout " ++ rest) → ((rest : List ℕ) → text ≢ codes "transmit " ++ rest) → ((rest : List ℕ) → text ≢ codes "send " ++ rest) → ((rest : List ℕ) → text ≢ codes "recv " ++ rest) → ((rest : List ℕ) → text ≢ codes "close " ++ rest) → ((rest : List ℕ) → text ≢ codes "ping " ++ rest) → ((rest : List ℕ) → text ≢ codes "ids " ++ rest) → ((i : Input) → IsOfStreams i → IsNext text i → ⊥)
+no_word : (text : List ℕ) → ((rest : List ℕ) → text ≢ codes "datagram " ++ rest) → ((rest : List ℕ) → text ≢ codes "timeout " ++ rest) → ((rest : List ℕ) → text ≢ codes "transmit " ++ rest) → ((rest : List ℕ) → text ≢ codes "send " ++ rest) → ((rest : List ℕ) → text ≢ codes "recv " ++ rest) → ((rest : List ℕ) → text ≢ codes "close " ++ rest) → ((rest : List ℕ) → text ≢ codes "ping " ++ rest) → ((rest : List ℕ) → text ≢ codes "update " ++ rest) → ((rest : List ℕ) → text ≢ codes "ids " ++ rest) → ((i : Input) → IsOfStreams i → IsNext text i → ⊥)
     → (i : Input) → IsNext text i → ⊥
-no_word text datagrams timeouts transmits sends recvs closes pings ids calls (Datagram now remote ecn bytes) h = datagrams _ (next_text text (Datagram now remote ecn bytes) h)
-no_word text datagrams timeouts transmits sends recvs closes pings ids calls (Timeout now) h = timeouts _ (next_text text (Timeout now) h)
-no_word text datagrams timeouts transmits sends recvs closes pings ids calls (Transmit now count) h = transmits _ (next_text text (Transmit now count) h)
-no_word text datagrams timeouts transmits sends recvs closes pings ids calls (SendDatagram now body) h = sends _ (next_text text (SendDatagram now body) h)
-no_word text datagrams timeouts transmits sends recvs closes pings ids calls (RecvDatagram now) h = recvs _ (next_text text (RecvDatagram now) h)
-no_word text datagrams timeouts transmits sends recvs closes pings ids calls (Close now code reason) h = closes _ (next_text text (Close now code reason) h)
-no_word text datagrams timeouts transmits sends recvs closes pings ids calls (Ping now) h = pings _ (next_text text (Ping now) h)
-no_word text datagrams timeouts transmits sends recvs closes pings ids calls (Identifiers now given) h = ids _ (next_text text (Identifiers now given) h)
-no_word text datagrams timeouts transmits sends recvs closes pings ids calls (Open now dir) h = calls (Open now dir) tt h
-no_word text datagrams timeouts transmits sends recvs closes pings ids calls (Accept now dir) h = calls (Accept now dir) tt h
-no_word text datagrams timeouts transmits sends recvs closes pings ids calls (Write now id body) h = calls (Write now id body) tt h
-no_word text datagrams timeouts transmits sends recvs closes pings ids calls (Finish now id) h = calls (Finish now id) tt h
-no_word text datagrams timeouts transmits sends recvs closes pings ids calls (ResetSend now id code) h = calls (ResetSend now id code) tt h
-no_word text datagrams timeouts transmits sends recvs closes pings ids calls (StopRecv now id code) h = calls (StopRecv now id code) tt h
-no_word text datagrams timeouts transmits sends recvs closes pings ids calls (Read now id max) h = calls (Read now id max) tt h
-no_word text datagrams timeouts transmits sends recvs closes pings ids calls (MaxStreams now dir count) h = calls (MaxStreams now dir count) tt h
-no_word text datagrams timeouts transmits sends recvs closes pings ids calls (SendWindow now size) h = calls (SendWindow now size) tt h
-no_word text datagrams timeouts transmits sends recvs closes pings ids calls (ReceiveWindow now size) h = calls (ReceiveWindow now size) tt h
+no_word text datagrams timeouts transmits sends recvs closes pings updates ids calls (Datagram now remote ecn bytes) h = datagrams _ (next_text text (Datagram now remote ecn bytes) h)
+no_word text datagrams timeouts transmits sends recvs closes pings updates ids calls (Timeout now) h = timeouts _ (next_text text (Timeout now) h)
+no_word text datagrams timeouts transmits sends recvs closes pings updates ids calls (Transmit now count) h = transmits _ (next_text text (Transmit now count) h)
+no_word text datagrams timeouts transmits sends recvs closes pings updates ids calls (SendDatagram now body) h = sends _ (next_text text (SendDatagram now body) h)
+no_word text datagrams timeouts transmits sends recvs closes pings updates ids calls (RecvDatagram now) h = recvs _ (next_text text (RecvDatagram now) h)
+no_word text datagrams timeouts transmits sends recvs closes pings updates ids calls (Close now code reason) h = closes _ (next_text text (Close now code reason) h)
+no_word text datagrams timeouts transmits sends recvs closes pings updates ids calls (Ping now) h = pings _ (next_text text (Ping now) h)
+no_word text datagrams timeouts transmits sends recvs closes pings updates ids calls (Update now) h = updates _ (next_text text (Update now) h)
+no_word text datagrams timeouts transmits sends recvs closes pings updates ids calls (Identifiers now given) h = ids _ (next_text text (Identifiers now given) h)
+no_word text datagrams timeouts transmits sends recvs closes pings updates ids calls (Open now dir) h = calls (Open now dir) tt h
+no_word text datagrams timeouts transmits sends recvs closes pings updates ids calls (Accept now dir) h = calls (Accept now dir) tt h
+no_word text datagrams timeouts transmits sends recvs closes pings updates ids calls (Write now id body) h = calls (Write now id body) tt h
+no_word text datagrams timeouts transmits sends recvs closes pings updates ids calls (Finish now id) h = calls (Finish now id) tt h
+no_word text datagrams timeouts transmits sends recvs closes pings updates ids calls (ResetSend now id code) h = calls (ResetSend now id code) tt h
+no_word text datagrams timeouts transmits sends recvs closes pings updates ids calls (StopRecv now id code) h = calls (StopRecv now id code) tt h
+no_word text datagrams timeouts transmits sends recvs closes pings updates ids calls (Read now id max) h = calls (Read now id max) tt h
+no_word text datagrams timeouts transmits sends recvs closes pings updates ids calls (MaxStreams now dir count) h = calls (MaxStreams now dir count) tt h
+no_word text datagrams timeouts transmits sends recvs closes pings updates ids calls (SendWindow now size) h = calls (SendWindow now size) tt h
+no_word text datagrams timeouts transmits sends recvs closes pings updates ids calls (ReceiveWindow now size) h = calls (ReceiveWindow now size) tt h
 
 -- what a reader of such calls found is what a reader of all inputs finds, where none of the other words stands in front
-pub call_read : {E : Type 0} (text : List ℕ) → ((rest : List ℕ) → text ≢ codes "datagram " ++ rest) → ((rest : List ℕ) → text ≢ codes "timeout " ++ rest) → ((rest : List ℕ) → text ≢ codes "transmit " ++ rest) → ((rest : List ℕ) → text ≢ codes "send " ++ rest) → ((rest : List ℕ) → text ≢ codes "recv " ++ rest) → ((rest : List ℕ) → text ≢ codes "close " ++ rest) → ((rest : List ℕ) → text ≢ codes "ping " ++ rest) → ((rest : List ℕ) → text ≢ codes "ids " ++ rest) → (r : Result (Option Input) E) → IfOk r (IsCallRead text) → IfOk r (IsLineRead text)
-call_read text datagrams timeouts transmits sends recvs closes pings ids (Ok None) h = no_word text datagrams timeouts transmits sends recvs closes pings ids h
-call_read text datagrams timeouts transmits sends recvs closes pings ids (Ok (Some i)) h = h
-call_read text datagrams timeouts transmits sends recvs closes pings ids (Err e) h = tt
+pub call_read : {E : Type 0} (text : List ℕ) → ((rest : List ℕ) → text ≢ codes "datagram " ++ rest) → ((rest : List ℕ) → text ≢ codes "timeout " ++ rest) → ((rest : List ℕ) → text ≢ codes "transmit " ++ rest) → ((rest : List ℕ) → text ≢ codes "send " ++ rest) → ((rest : List ℕ) → text ≢ codes "recv " ++ rest) → ((rest : List ℕ) → text ≢ codes "close " ++ rest) → ((rest : List ℕ) → text ≢ codes "ping " ++ rest) → ((rest : List ℕ) → text ≢ codes "update " ++ rest) → ((rest : List ℕ) → text ≢ codes "ids " ++ rest) → (r : Result (Option Input) E) → IfOk r (IsCallRead text) → IfOk r (IsLineRead text)
+call_read text datagrams timeouts transmits sends recvs closes pings updates ids (Ok None) h = no_word text datagrams timeouts transmits sends recvs closes pings updates ids h
+call_read text datagrams timeouts transmits sends recvs closes pings updates ids (Ok (Some i)) h = h
+call_read text datagrams timeouts transmits sends recvs closes pings updates ids (Err e) h = tt
 
 -- what a reader of all inputs found is what one of such calls finds
 pub read_call : (text : List ℕ) (r : Option Input) → IsLineRead text r → IsCallRead text r
@@ -487,6 +498,7 @@ input_line_injective (SendDatagram now body) (SendDatagram now' body') h k e = s
 input_line_injective (RecvDatagram now) (RecvDatagram now') h k e = ap RecvDatagram (decimal_injective now now' h k (one_fields (RecvDatagram now) (RecvDatagram now') refl e))
 input_line_injective (Close now code reason) (Close now' code' reason') h k e = close_injective now now' code code' reason reason' h k (one_fields (Close now code reason) (Close now' code' reason') refl e)
 input_line_injective (Ping now) (Ping now') h k e = ap Ping (decimal_injective now now' h k (one_fields (Ping now) (Ping now') refl e))
+input_line_injective (Update now) (Update now') h k e = ap Update (decimal_injective now now' h k (one_fields (Update now) (Update now') refl e))
 input_line_injective (Identifiers now ids) (Identifiers now' ids') h k e = identifiers_injective now now' ids ids' h k (one_fields (Identifiers now ids) (Identifiers now' ids') refl e)
 input_line_injective (MaxStreams now dir count) (MaxStreams now' dir' count') h k e = streams_injective now now' dir dir' count count' h k (one_fields (MaxStreams now dir count) (MaxStreams now' dir' count') refl e)
 input_line_injective (SendWindow now size) (SendWindow now' size') h k e = sendwindow_injective now now' size size' h k (one_fields (SendWindow now size) (SendWindow now' size') refl e)

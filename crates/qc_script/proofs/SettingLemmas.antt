@@ -13,7 +13,7 @@ use Rattle.qc_state.specs.declared.input.Input.{Input}
 use Rattle.qc_script.specs.declared.settings.RandomWords.{RandomWords}
 use Rattle.qc_script.specs.declared.settings.RandomWords.TheVariants.{Zeros, Seed}
 use Rattle.qc_script.specs.declared.settings.Setting.{Setting}
-use Rattle.qc_script.specs.declared.settings.Setting.TheVariants.{Random, Time, Local, Remote, First, Addr, Token, Secret, LimitInitial, LimitHandshake, LimitFailures, Idle, Mtud, Gso}
+use Rattle.qc_script.specs.declared.settings.Setting.TheVariants.{Random, Time, Local, Remote, First, Addr, Token, Secret, LimitInitial, LimitHandshake, LimitData, LimitFailures, Idle, Mtud, Gso}
 use Rattle.qc_script.specs.Fields.{hex_field, address_text, flag_text, IsAddress}
 use Rattle.qc_script.specs.Script.{random_text, side_line, input_line, IsRandom, IsSeed, IsId, IsRemote, IsFirst, IsToken, IsSecret}
 use Rattle.qc_script.specs.Items.{setting_line, IsSetting, IsNextSetting, IsSettingRead, IsOfTransport, IsTransportRead}
@@ -57,6 +57,7 @@ kind (Token bytes) = 227
 kind (Secret bytes) = 216
 kind (LimitInitial packets) = 318
 kind (LimitHandshake packets) = 317
+kind (LimitData packets) = 313
 kind (LimitFailures packets) = 315
 kind (Idle limit) = 205
 kind (Mtud allowed) = 225
@@ -74,6 +75,7 @@ kind_at (Token bytes) = refl
 kind_at (Secret bytes) = refl
 kind_at (LimitInitial packets) = refl
 kind_at (LimitHandshake packets) = refl
+kind_at (LimitData packets) = refl
 kind_at (LimitFailures packets) = refl
 kind_at (Idle limit) = refl
 kind_at (Mtud allowed) = refl
@@ -123,6 +125,10 @@ limit_initial_next field packets e h side = record { spelled = spelled_on (codes
 pub limit_handshake_next : (field : List ℕ) (packets : ℕ) → field ≡ decimal packets → packets < 2 ^ 64 → (side : Side) → IsNextSetting side (codes "set limit_handshake " ++ field) (LimitHandshake packets)
 unfolding setting_line
 limit_handshake_next field packets e h side = record { spelled = spelled_on (codes "set limit_handshake ") field (decimal packets) e; within = h }
+
+pub limit_data_next : (field : List ℕ) (packets : ℕ) → field ≡ decimal packets → packets < 2 ^ 64 → (side : Side) → IsNextSetting side (codes "set limit_data " ++ field) (LimitData packets)
+unfolding setting_line
+limit_data_next field packets e h side = record { spelled = spelled_on (codes "set limit_data ") field (decimal packets) e; within = h }
 
 pub limit_failures_next : (field : List ℕ) (packets : ℕ) → field ≡ decimal packets → packets < 2 ^ 64 → (side : Side) → IsNextSetting side (codes "set limit_failures " ++ field) (LimitFailures packets)
 unfolding setting_line
@@ -191,6 +197,11 @@ unfolding setting_line
 no_limit_handshake field none side (LimitHandshake n) h = none n h.within (field_same (codes "set limit_handshake ") field (decimal n) h.spelled)
 no_limit_handshake field none side x h = let e : 317 ≡ kind x = kind_of_text side (codes "set limit_handshake " ++ field) x h in omega (arith, e)
 
+pub no_limit_data : (field : List ℕ) → ((n : ℕ) → n < 2 ^ 64 → field ≢ decimal n) → (side : Side) (x : Setting) → IsNextSetting side (codes "set limit_data " ++ field) x → ⊥
+unfolding setting_line
+no_limit_data field none side (LimitData n) h = none n h.within (field_same (codes "set limit_data ") field (decimal n) h.spelled)
+no_limit_data field none side x h = let e : 313 ≡ kind x = kind_of_text side (codes "set limit_data " ++ field) x h in omega (arith, e)
+
 pub no_limit_failures : (field : List ℕ) → ((n : ℕ) → n < 2 ^ 64 → field ≢ decimal n) → (side : Side) (x : Setting) → IsNextSetting side (codes "set limit_failures " ++ field) x → ⊥
 unfolding setting_line
 no_limit_failures field none side (LimitFailures n) h = none n h.within (field_same (codes "set limit_failures ") field (decimal n) h.spelled)
@@ -228,31 +239,32 @@ transport_read side text (Some x) h = h
 -- a text with none of the words is the line of no setting
 no_set_word : (text : List ℕ) → ((rest : List ℕ) → text ≢ codes "set random " ++ rest) → ((rest : List ℕ) → text ≢ codes "set time " ++ rest) → ((rest : List ℕ) → text ≢ codes "set local " ++ rest) → ((rest : List ℕ) → text ≢ codes "set remote " ++ rest)
     → ((rest : List ℕ) → text ≢ codes "set first " ++ rest) → ((rest : List ℕ) → text ≢ codes "set addr " ++ rest) → ((rest : List ℕ) → text ≢ codes "set token " ++ rest) → ((rest : List ℕ) → text ≢ codes "set secret " ++ rest)
-    → ((rest : List ℕ) → text ≢ codes "set limit_initial " ++ rest) → ((rest : List ℕ) → text ≢ codes "set limit_handshake " ++ rest) → ((rest : List ℕ) → text ≢ codes "set limit_failures " ++ rest) → ((side : Side) (x : Setting) → IsOfTransport x → IsNextSetting side text x → ⊥)
+    → ((rest : List ℕ) → text ≢ codes "set limit_initial " ++ rest) → ((rest : List ℕ) → text ≢ codes "set limit_handshake " ++ rest) → ((rest : List ℕ) → text ≢ codes "set limit_data " ++ rest) → ((rest : List ℕ) → text ≢ codes "set limit_failures " ++ rest) → ((side : Side) (x : Setting) → IsOfTransport x → IsNextSetting side text x → ⊥)
     → (side : Side) (x : Setting) → IsNextSetting side text x → ⊥
 unfolding setting_line
-no_set_word text randoms times locals remotes firsts addrs tokens secrets initials handshakes failures transports side (Random words) h = randoms (random_text words) (words_and_field (codes "set random ") text (random_text words) h.spelled)
-no_set_word text randoms times locals remotes firsts addrs tokens secrets initials handshakes failures transports side (Time now) h = times (decimal now) (words_and_field (codes "set time ") text (decimal now) h.spelled)
-no_set_word text randoms times locals remotes firsts addrs tokens secrets initials handshakes failures transports side (Local id) h = locals (hex_field id) (words_and_field (codes "set local ") text (hex_field id) h.spelled)
-no_set_word text randoms times locals remotes firsts addrs tokens secrets initials handshakes failures transports side (Remote id) h = remotes (hex_field id) (words_and_field (codes "set remote ") text (hex_field id) h.spelled)
-no_set_word text randoms times locals remotes firsts addrs tokens secrets initials handshakes failures transports side (First id) h = firsts (hex_field id) (words_and_field (codes "set first ") text (hex_field id) h.spelled)
-no_set_word text randoms times locals remotes firsts addrs tokens secrets initials handshakes failures transports side (Addr address) h = addrs (address_text address) (words_and_field (codes "set addr ") text (address_text address) h.spelled)
-no_set_word text randoms times locals remotes firsts addrs tokens secrets initials handshakes failures transports side (Token bytes) h = tokens (hex_field bytes) (words_and_field (codes "set token ") text (hex_field bytes) h.spelled)
-no_set_word text randoms times locals remotes firsts addrs tokens secrets initials handshakes failures transports side (Secret bytes) h = secrets (hex_field bytes) (words_and_field (codes "set secret ") text (hex_field bytes) h.spelled)
-no_set_word text randoms times locals remotes firsts addrs tokens secrets initials handshakes failures transports side (LimitInitial packets) h = initials (decimal packets) (words_and_field (codes "set limit_initial ") text (decimal packets) h.spelled)
-no_set_word text randoms times locals remotes firsts addrs tokens secrets initials handshakes failures transports side (LimitHandshake packets) h = handshakes (decimal packets) (words_and_field (codes "set limit_handshake ") text (decimal packets) h.spelled)
-no_set_word text randoms times locals remotes firsts addrs tokens secrets initials handshakes failures transports side (LimitFailures packets) h = failures (decimal packets) (words_and_field (codes "set limit_failures ") text (decimal packets) h.spelled)
-no_set_word text randoms times locals remotes firsts addrs tokens secrets initials handshakes failures transports side (Idle limit) h = transports side (Idle limit) tt h
-no_set_word text randoms times locals remotes firsts addrs tokens secrets initials handshakes failures transports side (Mtud allowed) h = transports side (Mtud allowed) tt h
-no_set_word text randoms times locals remotes firsts addrs tokens secrets initials handshakes failures transports side (Gso allowed) h = transports side (Gso allowed) tt h
+no_set_word text randoms times locals remotes firsts addrs tokens secrets initials handshakes datas failures transports side (Random words) h = randoms (random_text words) (words_and_field (codes "set random ") text (random_text words) h.spelled)
+no_set_word text randoms times locals remotes firsts addrs tokens secrets initials handshakes datas failures transports side (Time now) h = times (decimal now) (words_and_field (codes "set time ") text (decimal now) h.spelled)
+no_set_word text randoms times locals remotes firsts addrs tokens secrets initials handshakes datas failures transports side (Local id) h = locals (hex_field id) (words_and_field (codes "set local ") text (hex_field id) h.spelled)
+no_set_word text randoms times locals remotes firsts addrs tokens secrets initials handshakes datas failures transports side (Remote id) h = remotes (hex_field id) (words_and_field (codes "set remote ") text (hex_field id) h.spelled)
+no_set_word text randoms times locals remotes firsts addrs tokens secrets initials handshakes datas failures transports side (First id) h = firsts (hex_field id) (words_and_field (codes "set first ") text (hex_field id) h.spelled)
+no_set_word text randoms times locals remotes firsts addrs tokens secrets initials handshakes datas failures transports side (Addr address) h = addrs (address_text address) (words_and_field (codes "set addr ") text (address_text address) h.spelled)
+no_set_word text randoms times locals remotes firsts addrs tokens secrets initials handshakes datas failures transports side (Token bytes) h = tokens (hex_field bytes) (words_and_field (codes "set token ") text (hex_field bytes) h.spelled)
+no_set_word text randoms times locals remotes firsts addrs tokens secrets initials handshakes datas failures transports side (Secret bytes) h = secrets (hex_field bytes) (words_and_field (codes "set secret ") text (hex_field bytes) h.spelled)
+no_set_word text randoms times locals remotes firsts addrs tokens secrets initials handshakes datas failures transports side (LimitInitial packets) h = initials (decimal packets) (words_and_field (codes "set limit_initial ") text (decimal packets) h.spelled)
+no_set_word text randoms times locals remotes firsts addrs tokens secrets initials handshakes datas failures transports side (LimitHandshake packets) h = handshakes (decimal packets) (words_and_field (codes "set limit_handshake ") text (decimal packets) h.spelled)
+no_set_word text randoms times locals remotes firsts addrs tokens secrets initials handshakes datas failures transports side (LimitData packets) h = datas (decimal packets) (words_and_field (codes "set limit_data ") text (decimal packets) h.spelled)
+no_set_word text randoms times locals remotes firsts addrs tokens secrets initials handshakes datas failures transports side (LimitFailures packets) h = failures (decimal packets) (words_and_field (codes "set limit_failures ") text (decimal packets) h.spelled)
+no_set_word text randoms times locals remotes firsts addrs tokens secrets initials handshakes datas failures transports side (Idle limit) h = transports side (Idle limit) tt h
+no_set_word text randoms times locals remotes firsts addrs tokens secrets initials handshakes datas failures transports side (Mtud allowed) h = transports side (Mtud allowed) tt h
+no_set_word text randoms times locals remotes firsts addrs tokens secrets initials handshakes datas failures transports side (Gso allowed) h = transports side (Gso allowed) tt h
 
 -- behind the other words the reader of the transport's settings reads each setting
 pub last_read : (text : List ℕ) → ((rest : List ℕ) → text ≢ codes "set random " ++ rest) → ((rest : List ℕ) → text ≢ codes "set time " ++ rest) → ((rest : List ℕ) → text ≢ codes "set local " ++ rest) → ((rest : List ℕ) → text ≢ codes "set remote " ++ rest)
     → ((rest : List ℕ) → text ≢ codes "set first " ++ rest) → ((rest : List ℕ) → text ≢ codes "set addr " ++ rest) → ((rest : List ℕ) → text ≢ codes "set token " ++ rest) → ((rest : List ℕ) → text ≢ codes "set secret " ++ rest)
-    → ((rest : List ℕ) → text ≢ codes "set limit_initial " ++ rest) → ((rest : List ℕ) → text ≢ codes "set limit_handshake " ++ rest) → ((rest : List ℕ) → text ≢ codes "set limit_failures " ++ rest) → (r : Option Setting) → ((side : Side) → IsTransportRead side text r)
+    → ((rest : List ℕ) → text ≢ codes "set limit_initial " ++ rest) → ((rest : List ℕ) → text ≢ codes "set limit_handshake " ++ rest) → ((rest : List ℕ) → text ≢ codes "set limit_data " ++ rest) → ((rest : List ℕ) → text ≢ codes "set limit_failures " ++ rest) → (r : Option Setting) → ((side : Side) → IsTransportRead side text r)
     → (side : Side) → IsSettingRead side text r
-last_read text randoms times locals remotes firsts addrs tokens secrets initials handshakes failures None h side = no_set_word text randoms times locals remotes firsts addrs tokens secrets initials handshakes failures h side
-last_read text randoms times locals remotes firsts addrs tokens secrets initials handshakes failures (Some x) h side = h side
+last_read text randoms times locals remotes firsts addrs tokens secrets initials handshakes datas failures None h side = no_set_word text randoms times locals remotes firsts addrs tokens secrets initials handshakes datas failures h side
+last_read text randoms times locals remotes firsts addrs tokens secrets initials handshakes datas failures (Some x) h side = h side
 
 -- ---- lines and settings
 
@@ -325,6 +337,7 @@ setting_line_injective side (Token bytes) (Token bytes') h k e =
 setting_line_injective side (Secret bytes) (Secret bytes') h k e = ap Secret (hex_field_injective bytes bytes' h.0 k.0 (fields_same_behind (codes "set secret ") (hex_field bytes) (hex_field bytes') e))
 setting_line_injective side (LimitInitial n) (LimitInitial n') h k e = ap LimitInitial (decimal_injective n n' h k (fields_same_behind (codes "set limit_initial ") (decimal n) (decimal n') e))
 setting_line_injective side (LimitHandshake n) (LimitHandshake n') h k e = ap LimitHandshake (decimal_injective n n' h k (fields_same_behind (codes "set limit_handshake ") (decimal n) (decimal n') e))
+setting_line_injective side (LimitData n) (LimitData n') h k e = ap LimitData (decimal_injective n n' h k (fields_same_behind (codes "set limit_data ") (decimal n) (decimal n') e))
 setting_line_injective side (LimitFailures n) (LimitFailures n') h k e = ap LimitFailures (decimal_injective n n' h k (fields_same_behind (codes "set limit_failures ") (decimal n) (decimal n') e))
 setting_line_injective side (Idle n) (Idle n') h k e = ap Idle (decimal_injective n n' (omega (arith, h)) (omega (arith, k)) (fields_same_behind (codes "set idle ") (decimal n) (decimal n') e))
 setting_line_injective side (Mtud a) (Mtud b) h k e = ap Mtud (flag_injective a b (fields_same_behind (codes "set mtud ") (flag_text a) (flag_text b) e))
@@ -344,6 +357,7 @@ setting_word (Token bytes) = refl
 setting_word (Secret bytes) = refl
 setting_word (LimitInitial packets) = refl
 setting_word (LimitHandshake packets) = refl
+setting_word (LimitData packets) = refl
 setting_word (LimitFailures packets) = refl
 setting_word (Idle limit) = refl
 setting_word (Mtud allowed) = refl
@@ -365,6 +379,7 @@ setting_ends (Token bytes) = (codes "set token " ++ hex_field bytes, sym (append
 setting_ends (Secret bytes) = (codes "set secret " ++ hex_field bytes, sym (append_assoc (codes "set secret ") (hex_field bytes) (10 ∷ [])))
 setting_ends (LimitInitial packets) = (codes "set limit_initial " ++ decimal packets, sym (append_assoc (codes "set limit_initial ") (decimal packets) (10 ∷ [])))
 setting_ends (LimitHandshake packets) = (codes "set limit_handshake " ++ decimal packets, sym (append_assoc (codes "set limit_handshake ") (decimal packets) (10 ∷ [])))
+setting_ends (LimitData packets) = (codes "set limit_data " ++ decimal packets, sym (append_assoc (codes "set limit_data ") (decimal packets) (10 ∷ [])))
 setting_ends (LimitFailures packets) = (codes "set limit_failures " ++ decimal packets, sym (append_assoc (codes "set limit_failures ") (decimal packets) (10 ∷ [])))
 setting_ends (Idle limit) = (codes "set idle " ++ decimal limit, sym (append_assoc (codes "set idle ") (decimal limit) (10 ∷ [])))
 setting_ends (Mtud allowed) = (codes "set mtud " ++ flag_text allowed, sym (append_assoc (codes "set mtud ") (flag_text allowed) (10 ∷ [])))

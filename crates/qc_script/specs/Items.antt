@@ -5,7 +5,7 @@ use Rattle.qc_base.specs.declared.side.Side.{Side}
 use Rattle.qc_state.specs.declared.input.Input.{Input}
 use Rattle.qc_script.specs.declared.settings.Settings.{Settings}
 use Rattle.qc_script.specs.declared.settings.Setting.{Setting}
-use Rattle.qc_script.specs.declared.settings.Setting.TheVariants.{Random, Time, Local, Remote, First, Addr, Token, Secret, LimitInitial, LimitHandshake, LimitFailures, Idle, Mtud, Gso}
+use Rattle.qc_script.specs.declared.settings.Setting.TheVariants.{Random, Time, Local, Remote, First, Addr, Token, Secret, LimitInitial, LimitHandshake, LimitData, LimitFailures, Idle, Mtud, Gso}
 use Rattle.qc_script.specs.declared.items.Item.{Item}
 use Rattle.qc_script.specs.declared.items.Item.TheVariants as It
 use Rattle.qc_script.specs.Fields.{hex_field, address_text, flag_text, IsAddress}
@@ -23,6 +23,7 @@ setting_line (Token bytes) = codes "set token " ++ (hex_field bytes ++ 10 ∷ []
 setting_line (Secret bytes) = codes "set secret " ++ (hex_field bytes ++ 10 ∷ [])
 setting_line (LimitInitial packets) = codes "set limit_initial " ++ (decimal packets ++ 10 ∷ [])
 setting_line (LimitHandshake packets) = codes "set limit_handshake " ++ (decimal packets ++ 10 ∷ [])
+setting_line (LimitData packets) = codes "set limit_data " ++ (decimal packets ++ 10 ∷ [])
 setting_line (LimitFailures packets) = codes "set limit_failures " ++ (decimal packets ++ 10 ∷ [])
 setting_line (Idle limit) = codes "set idle " ++ (decimal limit ++ 10 ∷ [])
 setting_line (Mtud allowed) = codes "set mtud " ++ (flag_text allowed ++ 10 ∷ [])
@@ -40,6 +41,7 @@ IsSetting side (Token bytes) = IsToken side bytes
 IsSetting side (Secret bytes) = IsSecret bytes
 IsSetting side (LimitInitial packets) = packets < 2 ^ 64
 IsSetting side (LimitHandshake packets) = packets < 2 ^ 64
+IsSetting side (LimitData packets) = packets < 2 ^ 64
 IsSetting side (LimitFailures packets) = packets < 2 ^ 64
 IsSetting side (Idle limit) = limit < 2 ^ 62
 IsSetting side (Mtud allowed) = Unit {0}
@@ -79,10 +81,11 @@ setting_place (Token bytes) = 7
 setting_place (Secret bytes) = 8
 setting_place (LimitInitial packets) = 9
 setting_place (LimitHandshake packets) = 10
-setting_place (LimitFailures packets) = 11
-setting_place (Idle limit) = 12
-setting_place (Mtud allowed) = 13
-setting_place (Gso allowed) = 14
+setting_place (LimitData packets) = 11
+setting_place (LimitFailures packets) = 12
+setting_place (Idle limit) = 13
+setting_place (Mtud allowed) = 14
+setting_place (Gso allowed) = 15
 
 -- the settings with this one among them
 abbrev pub with_setting : Settings → Setting → Settings
@@ -96,6 +99,7 @@ with_setting s (Token bytes) = record s { token = Some bytes }
 with_setting s (Secret bytes) = record s { secret = Some bytes }
 with_setting s (LimitInitial packets) = record s { limit_initial = Some packets }
 with_setting s (LimitHandshake packets) = record s { limit_handshake = Some packets }
+with_setting s (LimitData packets) = record s { limit_data = Some packets }
 with_setting s (LimitFailures packets) = record s { limit_failures = Some packets }
 with_setting s (Idle limit) = record s { idle = Some limit }
 with_setting s (Mtud allowed) = record s { mtud = Some allowed }
@@ -103,7 +107,7 @@ with_setting s (Gso allowed) = record s { gso = Some allowed }
 
 -- what a script says whose one line names this side
 abbrev pub side_alone : Side → Settings
-side_alone side = record { side = side; random = None; time = None; local = None; remote = None; first = None; addr = None; token = None; secret = None; limit_initial = None; limit_handshake = None; limit_failures = None; idle = None; mtud = None; gso = None }
+side_alone side = record { side = side; random = None; time = None; local = None; remote = None; first = None; addr = None; token = None; secret = None; limit_initial = None; limit_handshake = None; limit_data = None; limit_failures = None; idle = None; mtud = None; gso = None }
 
 -- the line of an item
 abbrev pub item_line : Item → List ℕ
@@ -118,7 +122,7 @@ IsItem side (It.Input input) = IsWithin input
 -- the place of an item's line: an input's is that behind all set lines
 abbrev pub item_place : Item → ℕ
 item_place (It.Set setting) = setting_place setting
-item_place (It.Input input) = 15
+item_place (It.Input input) = 16
 
 -- the item's line may follow one of place `before`: a set line follows one of a lesser place, and an input any line
 abbrev pub Follows : (before : ℕ) → Item → Type 0

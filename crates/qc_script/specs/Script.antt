@@ -14,6 +14,7 @@
 --     set secret H      the toy's secret, of 5 bytes (zeros)
 --     set limit_initial N    how many packets an Initial key may seal (2^23)
 --     set limit_handshake N  how many packets a Handshake key may seal (2^23)
+--     set limit_data N       how many packets a 1-RTT key may seal (2^23)
 --     set limit_failures N   how many packets may fail to open (2^52; RFC 9001, section 6.6)
 --     set idle N        this end's limit on idle time in milliseconds; 0 is none (30000)
 --     set mtud F        whether larger datagrams are looked for: `0` or `1` (1)
@@ -33,6 +34,7 @@
 --     recv T            it takes the oldest datagram that came
 --     close T C H       the application closes at time T, with the code C and the reason H
 --     ping T            a ping at time T
+--     update T          the application asks for an update of the keys at time T
 --     ids T I ..        the endpoint gives ids that the peer may use for this end, one or more, each I as S:H:K: its sequence number S,
 --                       the id H, and the token K of 16 bytes for a stateless reset
 --     streams T D N     the application sets that the peer may have N streams of direction D open at a time
@@ -49,7 +51,7 @@ use Rattle.qc_base.specs.declared.ids.IssuedCid.{IssuedCid}
 use Rattle.qc_base.specs.declared.side.Side.{Side}
 use Rattle.qc_base.specs.declared.side.Side.TheVariants.{Client, Server}
 use Rattle.qc_state.specs.declared.input.Input.{Input}
-use Rattle.qc_state.specs.declared.input.Input.TheVariants.{Datagram, Timeout, Transmit, Open, Accept, Write, Finish, ResetSend, StopRecv, Read, SendDatagram, RecvDatagram, Close, Ping, Identifiers, MaxStreams, SendWindow, ReceiveWindow}
+use Rattle.qc_state.specs.declared.input.Input.TheVariants.{Datagram, Timeout, Transmit, Open, Accept, Write, Finish, ResetSend, StopRecv, Read, SendDatagram, RecvDatagram, Close, Ping, Update, Identifiers, MaxStreams, SendWindow, ReceiveWindow}
 use Rattle.qc_script.specs.declared.settings.RandomWords.{RandomWords}
 use Rattle.qc_script.specs.declared.settings.RandomWords.TheVariants.{Zeros, Seed}
 use Rattle.qc_script.specs.declared.settings.Settings.{Settings}
@@ -101,10 +103,11 @@ set_lines s =
     ++ (line_if (codes "set secret ") hex_field s.secret
     ++ (line_if (codes "set limit_initial ") decimal s.limit_initial
     ++ (line_if (codes "set limit_handshake ") decimal s.limit_handshake
+    ++ (line_if (codes "set limit_data ") decimal s.limit_data
     ++ (line_if (codes "set limit_failures ") decimal s.limit_failures
     ++ (line_if (codes "set idle ") decimal s.idle
     ++ (line_if (codes "set mtud ") flag_text s.mtud
-    ++ line_if (codes "set gso ") flag_text s.gso)))))))))))))
+    ++ line_if (codes "set gso ") flag_text s.gso))))))))))))))
 
 -- a seed has 32 bytes
 abbrev pub IsSeed : List ℕ → Type 0
@@ -150,6 +153,7 @@ pub record AreSettings (s : Settings) : Type 0 where
   pub secret : IfSome s.secret IsSecret
   pub limit_initial : IfSome s.limit_initial (λ n. n < 2 ^ 64)
   pub limit_handshake : IfSome s.limit_handshake (λ n. n < 2 ^ 64)
+  pub limit_data : IfSome s.limit_data (λ n. n < 2 ^ 64)
   pub limit_failures : IfSome s.limit_failures (λ n. n < 2 ^ 64)
   pub idle : IfSome s.idle (λ n. n < 2 ^ 62)
 
@@ -195,6 +199,7 @@ input_line (SendDatagram now body) = codes "send " ++ (decimal now ++ 32 ∷ (he
 input_line (RecvDatagram now) = codes "recv " ++ (decimal now ++ 10 ∷ [])
 input_line (Close now code reason) = codes "close " ++ (decimal now ++ 32 ∷ (decimal code ++ 32 ∷ (hex_field reason ++ 10 ∷ [])))
 input_line (Ping now) = codes "ping " ++ (decimal now ++ 10 ∷ [])
+input_line (Update now) = codes "update " ++ (decimal now ++ 10 ∷ [])
 input_line (Identifiers now ids) = codes "ids " ++ (decimal now ++ (ids_text ids ++ 10 ∷ []))
 input_line (MaxStreams now dir count) = codes "streams " ++ (decimal now ++ 32 ∷ (dir_text dir ++ 32 ∷ (decimal count ++ 10 ∷ [])))
 input_line (SendWindow now size) = codes "sendwindow " ++ (decimal now ++ 32 ∷ (decimal size ++ 10 ∷ []))
@@ -217,6 +222,7 @@ IsWithin (SendDatagram now body) = (now < 2 ^ 64) × IsBytes body
 IsWithin (RecvDatagram now) = now < 2 ^ 64
 IsWithin (Close now code reason) = (now < 2 ^ 64) × (code < 2 ^ 62) × IsBytes reason
 IsWithin (Ping now) = now < 2 ^ 64
+IsWithin (Update now) = now < 2 ^ 64
 IsWithin (Identifiers now ids) = (now < 2 ^ 64) × (0 < length ids) × AreIssued ids
 IsWithin (MaxStreams now dir count) = (now < 2 ^ 64) × (count < 2 ^ 62)
 IsWithin (SendWindow now size) = (now < 2 ^ 64) × (size < 2 ^ 64)

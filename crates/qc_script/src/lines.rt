@@ -127,6 +127,18 @@ fn ping_line(digits: &[u8]) -> Option<Input>
     }
 }
 
+/// The input of a line with this field that asks for an update of the keys.
+fn update_line(digits: &[u8]) -> Option<Input>
+    ensures { IsLineRead (codes "update " ++ digits.now) result }
+{
+    match read_number(digits) {
+        Some(now) => Some(Input::Update {
+            now: Instant::from_nanos(now),
+        }),
+        None => None,
+    }
+}
+
 /// The input of this line, LF excluded.
 pub fn read_line(alloc: Global, text: &[u8]) -> Result<Option<Input>, AllocError>
     ensures { IfOk result (IsLineRead text.now) }
@@ -151,6 +163,9 @@ pub fn read_line(alloc: Global, text: &[u8]) -> Result<Option<Input>, AllocError
     }
     if let Some(digits) = after_word(text, b"ping ") {
         return Ok(ping_line(digits));
+    }
+    if let Some(digits) = after_word(text, b"update ") {
+        return Ok(update_line(digits));
     }
     if let Some(fields) = after_word(text, b"ids ") {
         return ids_line(alloc, fields);

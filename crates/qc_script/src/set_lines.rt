@@ -198,6 +198,16 @@ fn limit_handshake_line(digits: &[u8]) -> Option<Setting>
     }
 }
 
+/// What a line sets that gives how many packets a 1-RTT key may seal.
+fn limit_data_line(digits: &[u8]) -> Option<Setting>
+    ensures { (side : Side) → IsSettingRead side (codes "set limit_data " ++ digits.now) result }
+{
+    match read_number(digits) {
+        Some(packets) => Some(Setting::LimitData(packets)),
+        None => None,
+    }
+}
+
 /// What a line sets that gives how many packets may fail to open.
 fn limit_failures_line(digits: &[u8]) -> Option<Setting>
     ensures { (side : Side) → IsSettingRead side (codes "set limit_failures " ++ digits.now) result }
@@ -287,6 +297,9 @@ pub fn read_setting(alloc: Global, side: Side, text: &[u8]) -> Result<Option<Set
     }
     if let Some(digits) = after_word(text, b"set limit_handshake ") {
         return Ok(limit_handshake_line(digits));
+    }
+    if let Some(digits) = after_word(text, b"set limit_data ") {
+        return Ok(limit_data_line(digits));
     }
     if let Some(digits) = after_word(text, b"set limit_failures ") {
         return Ok(limit_failures_line(digits));

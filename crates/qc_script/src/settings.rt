@@ -41,6 +41,8 @@ pub struct Settings {
     pub limit_initial: Option<u64>,
     /// How many packets a Handshake key may seal.
     pub limit_handshake: Option<u64>,
+    /// How many packets a 1-RTT key may seal.
+    pub limit_data: Option<u64>,
     /// How many packets may fail to open (RFC 9001, 6.6).
     pub limit_failures: Option<u64>,
     /// This end's limit on idle time in milliseconds; 0 is none (RFC 9000, 10.1).
@@ -74,6 +76,8 @@ pub enum Setting {
     LimitInitial(u64),
     /// How many packets a Handshake key may seal.
     LimitHandshake(u64),
+    /// How many packets a 1-RTT key may seal.
+    LimitData(u64),
     /// How many packets may fail to open.
     LimitFailures(u64),
     /// This end's limit on idle time in milliseconds.
@@ -100,10 +104,11 @@ impl Setting {
             Setting::Secret(_) => 8,
             Setting::LimitInitial(_) => 9,
             Setting::LimitHandshake(_) => 10,
-            Setting::LimitFailures(_) => 11,
-            Setting::Idle(_) => 12,
-            Setting::Mtud(_) => 13,
-            Setting::Gso(_) => 14,
+            Setting::LimitData(_) => 11,
+            Setting::LimitFailures(_) => 12,
+            Setting::Idle(_) => 13,
+            Setting::Mtud(_) => 14,
+            Setting::Gso(_) => 15,
         }
     }
 }
@@ -125,6 +130,7 @@ impl Settings {
             secret: None,
             limit_initial: None,
             limit_handshake: None,
+            limit_data: None,
             limit_failures: None,
             idle: None,
             mtud: None,
@@ -147,6 +153,7 @@ impl Settings {
             Setting::Secret(bytes) => self.secret = Some(bytes),
             Setting::LimitInitial(packets) => self.limit_initial = Some(packets),
             Setting::LimitHandshake(packets) => self.limit_handshake = Some(packets),
+            Setting::LimitData(packets) => self.limit_data = Some(packets),
             Setting::LimitFailures(packets) => self.limit_failures = Some(packets),
             Setting::Idle(limit) => self.idle = Some(limit),
             Setting::Mtud(allowed) => self.mtud = Some(allowed),

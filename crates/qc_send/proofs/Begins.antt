@@ -19,7 +19,8 @@ use Rattle.qc_state.specs.Keys.{has_keys_for, reaches_limit, usage_of}
 use Rattle.qc_state.specs.Moves.{Begin, Skip, Take, state_move, move_to, numbers_move, keys_move, paths_move, setup_move, deeds_move}
 use Rattle.qc_state.specs.Numbers.{next_number, acked_number, coming_number, is_skipped, number_skipped, used_in}
 use Rattle.qc_state.specs.declared.numbers.Numbers.{Numbers}
-use Rattle.qc_state.specs.Sending.{is_past_limit, is_used_up, is_key_used_up, is_token_too_long, header_in, room_of, skipped_after, batch_opened, begun_after, begun_batch, MayBegin, MayStand}
+use Rattle.qc_state.specs.Batches.{batch_opened}
+use Rattle.qc_state.specs.Sending.{is_past_limit, is_used_up, is_key_used_up, is_token_too_long, header_in, room_of, skipped_after, begun_after, begun_batch, MayBegin, MayStand}
 use Rattle.qc_state.specs.Spaces.{is_space}
 use Rattle.qc_state.specs.Types.{Types, Meaning}
 use Rattle.qc_state.specs.View.{View, At, at}

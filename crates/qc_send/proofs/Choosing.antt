@@ -16,15 +16,18 @@ use Rattle.qc_state.specs.Keys.{form_in}
 use Rattle.qc_state.specs.Offers.{path_size}
 use Rattle.qc_state.specs.declared.paths.Path.{Path}
 use Rattle.qc_state.specs.Paths.{held_size, is_blocked_behind, least_on, most_on}
-use Rattle.qc_state.specs.Sending.{Dies, HasTurn, MayBegin, MayStand, is_closed_up, is_in_order, is_whole, most_of, all_eager, batch_begun, batch_from, first_eager, held_by, held_in, is_congested, is_eager, is_first_in_turn, is_passed, is_silent, kill_in, limit_in, next_segment, owes, owes_in, paced_until, quiet_by, quiet_of}
+use Rattle.qc_state.specs.Batches.{is_closed_up, is_in_order, is_whole, batch_begun, next_segment}
+use Rattle.qc_state.specs.Sending.{Dies, HasTurn, MayBegin, MayStand, most_of, all_eager, batch_from, first_eager, held_by, held_in, is_congested, is_eager, is_first_in_turn, is_passed, is_silent, kill_in, limit_in, owes, owes_in, paced_until, quiet_by, quiet_of}
 use Rattle.qc_state.specs.Types.{Types, Meaning}
-use Rattle.qc_state.specs.View.{View}
+use Rattle.qc_state.specs.View.{View, At}
 use Rattle.qc_state.specs.declared.life.State.{State}
 use Rattle.qc_state.specs.declared.life.State.TheVariants as state
 use Rattle.qc_state.specs.Life.{is_drained, is_open}
 use Rattle.qc_state.specs.declared.life.ConnectionError.{ConnectionError}
 use Rattle.qc_send.specs.Joining.{IsRoomy, MayTake}
 use Rattle.qc_send.proofs.Sizes.{begun_sized}
+use Rattle.qc_state.specs.Updating.{tried_after}
+use Rattle.qc_state.proofs.TriedTurns.{stand_tried, turn_tried}
 
 -- a connection that isn't silent has not ended, and is open where it owes no close
 goes_on : (s : State) (owed : Bool) → (is_drained s || (not (is_open s) && not owed)) ≡ false → (is_drained s ≡ false) × (owed ≡ false → is_open s ≡ true)
@@ -281,6 +284,12 @@ module _ {t : Types} where
   -- ---- a packet of a space
 
   -- the form in which a space seals counts its numbers there
+  -- a packet that may be taken may be behind an update that is tried for it
+  pub take_tried : (m : Meaning t) (time : ℕ) (b : Batch) (f : Form) (a c : At t) (id : SpaceId) (opens : Bool) → c ≡ tried_after m f a → MayTake m time a.state b id opens → MayTake m time c.state b id opens
+  take_tried m time b f a c id opens is may =
+      subst (λ (x : At t). MayTake m time x.state b id opens) (sym is)
+      (record { turn = turn_tried m time b f a id may.turn; place = stand_tried m time b f a id opens may.place; behind = may.behind; roomy = may.roomy })
+
   pub begins_form : (m : Meaning t) (time : ℕ) (s : View t) (b : Batch) (id : SpaceId) (form : Form) (opens : Bool) (found : Option ConnectionError) → MayTake m time s b id opens → form ≡ form_in s.keys id → found ≡ kill_in b s form → found ≡ None →
       MayBegin m time s b form opens
   begins_form m time s b id form opens found may is_form is_found none =
@@ -298,11 +307,12 @@ module _ {t : Types} where
 
   -- where it can't begin, the connection ends
   pub dies_in : (m : Meaning t) (time : ℕ) (s : View t) (b : Batch) (id : SpaceId) (form : Form) (opens : Bool) (found : Option ConnectionError) (why : ConnectionError) → MayTake m time s b id opens → form ≡ form_in s.keys id → found ≡ kill_in b s form → found ≡ Some why →
-      Dies m time s b why
+      Dies m time s b form why
   dies_in m time s b id form opens found why may is_form is_found kills = record {
     space = id;
     opens = opens;
     turn = may.turn;
     place = may.place;
-    kill = sym (ap (kill_in b s) is_form) ∙ sym is_found ∙ kills;
+    now = is_form;
+    kill = sym is_found ∙ kills;
   }

@@ -29,7 +29,8 @@ use Rattle.qc_state.specs.Life.{is_drained, is_open}
 use Rattle.qc_state.specs.declared.life.State.{State}
 use Rattle.qc_state.specs.Numbers.{next_number}
 use Rattle.qc_state.specs.Offers.{datagram_fits}
-use Rattle.qc_state.specs.Sending.{LacksRoom, MayBegin, batch_grown, begun_after, begun_batch, begun_view, flown_after, fills_up, is_done, least_size, owes_in, packet_size, room_in, room_of, takes_another}
+use Rattle.qc_state.specs.Batches.{batch_grown, is_done, takes_another}
+use Rattle.qc_state.specs.Sending.{LacksRoom, MayBegin, begun_after, begun_batch, begun_view, flown_after, fills_up, least_size, owes_in, packet_size, room_in, room_of}
 use Rattle.qc_state.specs.Spaces.{is_space, space_of}
 use Rattle.qc_state.specs.Types.{Types, Meaning}
 use Rattle.qc_state.specs.View.{View, At, at}

@@ -12,7 +12,8 @@ use Rattle.qc_state.specs.declared.transmit.TheConstants.{JOINING_SIZE}
 use Rattle.qc_state.specs.Acks.{IsLongAck, is_ack_owed}
 use Rattle.qc_state.specs.Keys.{form_in}
 use Rattle.qc_state.specs.Offers.{datagram_fits, wants_sending}
-use Rattle.qc_state.specs.Sending.{HasTurn, begun_view, is_done, is_in_order, is_used_up, is_whole, limit_in, next_segment, owes_in, room_of}
+use Rattle.qc_state.specs.Batches.{is_done, is_in_order, is_whole, next_segment}
+use Rattle.qc_state.specs.Sending.{HasTurn, begun_view, is_used_up, limit_in, owes_in, room_of}
 use Rattle.qc_state.specs.Spaces.{is_space, space_of}
 use Rattle.qc_state.specs.Types.{Types, Meaning}
 use Rattle.qc_state.specs.View.{View}

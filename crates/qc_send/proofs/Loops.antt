@@ -5,17 +5,18 @@ use Rattle.qc_base.specs.declared.side.SpaceId.{SpaceId}
 use Rattle.qc_base.specs.Time.{plus}
 use Rattle.qc_send.specs.declared.joining.Further.{Further}
 use Rattle.qc_send.specs.declared.joining.Further.TheVariants as further
+use Rattle.qc_send.specs.declared.sending.Dying.{Dying}
 use Rattle.qc_send.specs.declared.sending.Next.{Next}
 use Rattle.qc_send.specs.declared.sending.Next.TheVariants as next
 use Rattle.qc_send.specs.declared.sending.Outcome.{Outcome}
 use Rattle.qc_send.specs.declared.sending.Outcome.TheVariants as outcome
 use Rattle.qc_send.specs.Joining.{FallsTo, FilledIs, FollowIs, FurtherIs, HeldIf, IsBelow, IsFull, LeavesFewer, MadeIs, MayTake, NextIs, OutcomeIs, follows, made_with, outcome_of}
 use Rattle.qc_state.specs.declared.form.Form.{Form}
-use Rattle.qc_state.specs.declared.life.ConnectionError.{ConnectionError}
 use Rattle.qc_state.specs.declared.transmit.Batch.{Batch}
 use Rattle.qc_state.specs.Forms.{number_space}
 use Rattle.qc_state.specs.Keys.{form_in}
-use Rattle.qc_state.specs.Sending.{Dies, MayBegin, MayStand, batch_grown, batch_opened, begun_batch}
+use Rattle.qc_state.specs.Batches.{batch_grown, batch_opened}
+use Rattle.qc_state.specs.Sending.{Dies, MayBegin, MayStand, begun_batch}
 use Rattle.qc_state.specs.Spaces.{space_of}
 use Rattle.qc_state.specs.Types.{Types, Meaning}
 use Rattle.qc_state.specs.View.{View}
@@ -104,8 +105,8 @@ module _ {t : Types} where
   pub next_full : (m : Meaning t) (time : ℕ) (s : View t) (b : Batch) (found : Next) → found ≡ next.Full → NextIs m time s b found → IsFull time s b
   next_full m time s b found is h = subst (λ (x : Next). NextIs m time s b x) is h
 
-  pub next_dies : (m : Meaning t) (time : ℕ) (s : View t) (b : Batch) (found : Next) (why : ConnectionError) → found ≡ next.Dies why → NextIs m time s b found → Dies m time s b why
-  next_dies m time s b found why is h = subst (λ (x : Next). NextIs m time s b x) is h
+  pub next_dies : (m : Meaning t) (time : ℕ) (s : View t) (b : Batch) (found : Next) (dying : Dying) → found ≡ next.Dies dying → NextIs m time s b found → Dies m time s b dying.form dying.why
+  next_dies m time s b found dying is h = subst (λ (x : Next). NextIs m time s b x) is h
 
   -- a datagram that is full is followed by what the search for a further one finds
   outcome_by : (m : Meaning t) (time : ℕ) (s : View t) (b : Batch) (found : Further) → IsFull time s b → FurtherIs m time s b found → OutcomeIs m time s b (outcome_of found)
@@ -114,15 +115,15 @@ module _ {t : Types} where
   outcome_by m time s b further.Ends full h = (full, tt)
   outcome_by m time s b further.Passes full h = (full, tt)
 
-  pub outcome_is : (m : Meaning t) (time : ℕ) (s : View t) (b : Batch) (dies : Option ConnectionError) (found : Further) (o : Outcome) → dies ≡ None → FilledIs m time s b dies → FurtherIs m time s b found → o ≡ outcome_of found → OutcomeIs m time s b o
+  pub outcome_is : (m : Meaning t) (time : ℕ) (s : View t) (b : Batch) (dies : Option Dying) (found : Further) (o : Outcome) → dies ≡ None → FilledIs m time s b dies → FurtherIs m time s b found → o ≡ outcome_of found → OutcomeIs m time s b o
   outcome_is m time s b dies found o none full h is =
-      subst (λ (x : Outcome). OutcomeIs m time s b x) (sym is) (outcome_by m time s b found (subst (λ (x : Option ConnectionError). FilledIs m time s b x) none full) h)
+      subst (λ (x : Outcome). OutcomeIs m time s b x) (sym is) (outcome_by m time s b found (subst (λ (x : Option Dying). FilledIs m time s b x) none full) h)
 
-  pub filled_full : (m : Meaning t) (time : ℕ) (s : View t) (b : Batch) (dies : Option ConnectionError) → dies ≡ None → FilledIs m time s b dies → IsFull time s b
-  filled_full m time s b dies none full = subst (λ (x : Option ConnectionError). FilledIs m time s b x) none full
+  pub filled_full : (m : Meaning t) (time : ℕ) (s : View t) (b : Batch) (dies : Option Dying) → dies ≡ None → FilledIs m time s b dies → IsFull time s b
+  filled_full m time s b dies none full = subst (λ (x : Option Dying). FilledIs m time s b x) none full
 
-  pub filled_dies : (m : Meaning t) (time : ℕ) (s : View t) (b : Batch) (dies : Option ConnectionError) (why : ConnectionError) → dies ≡ Some why → FilledIs m time s b dies → Dies m time s b why
-  filled_dies m time s b dies why is full = subst (λ (x : Option ConnectionError). FilledIs m time s b x) is full
+  pub filled_dies : (m : Meaning t) (time : ℕ) (s : View t) (b : Batch) (dies : Option Dying) (dying : Dying) → dies ≡ Some dying → FilledIs m time s b dies → Dies m time s b dying.form dying.why
+  filled_dies m time s b dies dying is full = subst (λ (x : Option Dying). FilledIs m time s b x) is full
 
   pub outcome_begins : (m : Meaning t) (time : ℕ) (s : View t) (b : Batch) (o : Outcome) (id : SpaceId) → o ≡ outcome.Begins id → OutcomeIs m time s b o → MayTake m time s b id true
   outcome_begins m time s b o id is h = subst (λ (x : Outcome). OutcomeIs m time s b x) is h
@@ -130,8 +131,8 @@ module _ {t : Types} where
   pub outcome_ends : (m : Meaning t) (time : ℕ) (s : View t) (b : Batch) (o : Outcome) (paced : Bool) → o ≡ outcome.Ends paced → OutcomeIs m time s b o → IsFull time s b × HeldIf m time s b paced
   outcome_ends m time s b o paced is h = subst (λ (x : Outcome). OutcomeIs m time s b x) is h
 
-  pub outcome_dies : (m : Meaning t) (time : ℕ) (s : View t) (b : Batch) (o : Outcome) (why : ConnectionError) → o ≡ outcome.Dies why → OutcomeIs m time s b o → Dies m time s b why
-  outcome_dies m time s b o why is h = subst (λ (x : Outcome). OutcomeIs m time s b x) is h
+  pub outcome_dies : (m : Meaning t) (time : ℕ) (s : View t) (b : Batch) (o : Outcome) (dying : Dying) → o ≡ outcome.Dies dying → OutcomeIs m time s b o → Dies m time s b dying.form dying.why
+  outcome_dies m time s b o dying is h = subst (λ (x : Outcome). OutcomeIs m time s b x) is h
 
 -- fewer may follow
 pub falls_joins : (id other : SpaceId) (found : Next) → found ≡ next.Joins other → FallsTo id found → FallsTo id (next.Joins other)

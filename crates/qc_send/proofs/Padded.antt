@@ -28,7 +28,8 @@ use Rattle.qc_state.specs.Forms.{number_space}
 use Rattle.qc_state.specs.Life.{is_closed}
 use Rattle.qc_state.specs.Moves.{Take, state_move}
 use Rattle.qc_state.specs.Numbers.{next_number}
-use Rattle.qc_state.specs.Sending.{Closes, IsPadded, application_close, close_frame, closing_frame, fills, fills_up, header_in, holds_owed, least_size, packet_size, padding_in, room_beside, room_of, told_close, wanted_by, widens}
+use Rattle.qc_state.specs.Batches.{wanted_by, widens}
+use Rattle.qc_state.specs.Sending.{Closes, IsPadded, application_close, close_frame, closing_frame, fills, fills_up, header_in, holds_owed, least_size, packet_size, padding_in, room_beside, room_of, told_close}
 use Rattle.qc_state.specs.Spaces.{is_space, space_of}
 use Rattle.qc_state.specs.Types.{Types}
 use Rattle.qc_state.specs.View.{View}

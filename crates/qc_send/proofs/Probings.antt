@@ -21,7 +21,7 @@ use Rattle.qc_state.specs.Keys.{has_keys_for, reaches_limit, usage_of}
 use Rattle.qc_state.specs.Moves.{Ask, Probe, Say, Seal, Take, deeds_move, keys_move, move_to, numbers_move, state_move}
 use Rattle.qc_state.specs.Numbers.{acked_number, coming_number, next_number}
 use Rattle.qc_state.specs.Paths.{held_size}
-use Rattle.qc_state.specs.Sending.{Died, Hushed, MayProbe, Probed, begun_after, begun_view, ending_after, flown_after, going, held_after, is_flown, is_key_nearly_used_up, is_key_used_up, is_used_up, kill_in, packet_bytes, packet_size, probe_begun_after, probe_frames, probe_sealed, probe_size, probed_after, quiet_of, room_of, sealed_in, sent_out, sent_size, bytes_out, spared_after, transmit_with}
+use Rattle.qc_state.specs.Sending.{Died, Hushed, MayProbe, Probed, begun_after, begun_view, ending_after, flown_after, going, held_after, is_flown, is_key_nearly_used_up, is_key_used_up, is_used_up, kill_in, packet_bytes, packet_size, probe_begun_after, probe_frames, probe_sealed, probe_size, probed_after, quiet_of, room_of, sealed_in, sent_out, sent_size, spared_after, transmit_with, DiesProbing, probe_bytes}
 use Rattle.qc_state.specs.Stopping.{killed_after}
 use Rattle.qc_state.specs.Types.{Types, Meaning}
 use Rattle.qc_state.specs.View.{View, At, at}
@@ -31,6 +31,10 @@ use Rattle.qc_state.proofs.Transmitted.{unlimited}
 use Rattle.qc_send.proofs.Begins.{begun_acked, begun_number, number_low, number_near}
 use Rattle.qc_send.proofs.Padded.{least_near, padded_size_is, padding_is, size_parts}
 use Rattle.qc_send.proofs.Takes.{bytes_kept, number_kept, padded_kept, room_kept, sealed_now, size_kept, take_padded}
+use Rattle.qc_state.specs.Updating.{tried_after, tried_view}
+use Rattle.qc_state.proofs.Tried.{tried_same}
+use Rattle.qc_state.proofs.TriedTurns.{probe_tried, quiet_tried}
+use Rattle.qc_send.proofs.Transmits.{tried_sent}
 
 -- a PING has one byte
 ping_len : length (frames_spelling (Ping ∷ [])) ≡ 1
@@ -188,7 +192,7 @@ module _ {t : Types} where
       (is_counts ∙ ap (λ (xs : List FrameValue). is_flown mid (padded_to mid form.OneRtt size xs)) is) is_f
 
   pub probe_spelled_so : (m : Meaning t) (time size room : ℕ) (quiet : Quiet) (batch : Batch) (a : At t) (e mid : View t) (old buffer : List ℕ) (fs : List FrameValue) → fs ≡ Ping ∷ [] → at e a.did ≡ probe_begun_after m time quiet batch a → room ≡ room_of size e form.OneRtt → 25 ≤ room →
-      mid ≡ state_move (Take «Data» (Ping ∷ [])) e → old ≡ [] → buffer ≡ old ++ packet_bytes m mid form.OneRtt (padded_to mid form.OneRtt size fs) → buffer ≡ bytes_out m time (Probed quiet size) batch a []
+      mid ≡ state_move (Take «Data» (Ping ∷ [])) e → old ≡ [] → buffer ≡ old ++ packet_bytes m mid form.OneRtt (padded_to mid form.OneRtt size fs) → buffer ≡ probe_bytes m time size quiet batch a
   probe_spelled_so m time size room quiet batch a e mid old buffer fs is begun is_room wide is_mid empty is_buffer =
       probe_spelled m size room e mid old buffer is_room wide is_mid empty (is_buffer ∙ ap (λ (xs : List FrameValue). old ++ packet_bytes m mid form.OneRtt (padded_to mid form.OneRtt size xs)) is)
       ∙ ap (λ (x : At t). packet_bytes m x.state form.OneRtt (probe_frames x.state size)) begun
@@ -209,8 +213,8 @@ module _ {t : Types} where
 
   -- the search waits for it, and the connection closes, where it is to
   pub probe_leads : (m : Meaning t) (time size number : ℕ) (quiet : Quiet) (nearly : Bool) (b : Batch) (a f : At t) (e : View t) (g h : At t) → at e a.did ≡ probe_begun_after m time quiet b a → f ≡ sealed_in m time form.OneRtt (probe_frames e size) (at e a.did) →
-      number ≡ next_number e.numbers «Data» → g ≡ move_to (Probe time number size quiet) f → nearly ≡ is_key_nearly_used_up e form.OneRtt → h ≡ spared_after time nearly g → h ≡ ending_after m time (Probed quiet size) b a
-  unfolding ending_after probed_after probe_sealed
+      number ≡ next_number e.numbers «Data» → g ≡ move_to (Probe time number size quiet) f → nearly ≡ is_key_nearly_used_up e form.OneRtt → h ≡ spared_after time nearly g → h ≡ probed_after m time size quiet b a
+  unfolding probed_after probe_sealed
   probe_leads m time size number quiet nearly b a f e g h begun is_f is_number is_g is_nearly is_h =
       is_h ∙ ap (λ (x : Bool). spared_after time x g) is_nearly ∙ ap (λ (x : At t). spared_after time (is_key_nearly_used_up e form.OneRtt) x) (is_g ∙ ap (λ (n : ℕ). move_to (Probe time n size quiet) f) is_number ∙ ap (λ (x : At t). move_to (Probe time (next_number e.numbers «Data») size quiet) x) is_f)
       ∙ ap (λ (x : At t). spared_after time (is_key_nearly_used_up x.state form.OneRtt) (probe_sealed m time size quiet x)) begun
@@ -232,35 +236,43 @@ module _ {t : Types} where
     full = ap length empty;
   }
 
-  -- a probe is due
-  pub probe_may : (m : Meaning t) (time size : ℕ) (s : View t) (batch : Batch) (quiet : Quiet) (found : Option ℕ) → batch.made ≡ 0 → quiet_of m time s batch ≡ Some quiet → found ≡ probe_size time s → found ≡ Some size → MayProbe m time s batch quiet size
-  probe_may m time size s batch quiet found none cause is some = record { none = none; cause = cause; due = sym is ∙ some }
+  -- a probe is due, also behind an update that is tried for it
+  pub probe_may : (m : Meaning t) (time size : ℕ) (a c : At t) (batch : Batch) (quiet : Quiet) (found : Option ℕ) → c ≡ tried_after m form.OneRtt a → batch.made ≡ 0 → quiet_of m time a.state batch ≡ Some quiet → found ≡ probe_size time a.state → found ≡ Some size →
+      MayProbe m time c.state batch quiet size
+  probe_may m time size a c batch quiet found tried none cause is some =
+      subst (λ (x : At t). MayProbe m time x.state batch quiet size) (sym tried)
+      (record { none = none; cause = quiet_tried m time batch form.OneRtt a ∙ cause; due = probe_tried m time batch form.OneRtt a ∙ sym is ∙ some })
 
   -- that can't begin: the connection ends
-  pub probe_dies : (m : Meaning t) (time size : ℕ) (a b : At t) (batch : Batch) (quiet : Quiet) (why : ConnectionError) (killed : Option ConnectionError) (sent : Option Transmit) (old buffer : List ℕ) → MayProbe m time a.state batch quiet size →
-      killed ≡ kill_in batch a.state form.OneRtt → killed ≡ Some why → b ≡ move_to (Say Killed) (killed_after why a) → sent ≡ None → buffer ≡ [] → EndsSo m time (going a batch old) b sent buffer
+  pub probe_dies : (m : Meaning t) (time size : ℕ) (a c b : At t) (batch : Batch) (quiet : Quiet) (why : ConnectionError) (killed : Option ConnectionError) (sent : Option Transmit) (old buffer : List ℕ) → c ≡ tried_after m form.OneRtt a →
+      MayProbe m time c.state batch quiet size → killed ≡ kill_in batch c.state form.OneRtt → killed ≡ Some why → b ≡ move_to (Say Killed) (killed_after why c) → sent ≡ None → buffer ≡ [] → EndsSo m time (going a batch old) b sent buffer
   unfolding ending_after
-  probe_dies m time size a b batch quiet why killed sent old buffer may is some moved is_sent empty = record {
+  probe_dies m time size a c b batch quiet why killed sent old buffer tried may is some moved is_sent empty = record {
     packets = [];
-    ending = Died why;
+    ending = Died form.OneRtt why;
     may = tt;
-    ends = inr (record { quiet = quiet; size = size; may = may; kill = sym is ∙ some });
-    leads = moved;
+    ends = inr (subst (λ (v : View t). DiesProbing m time v batch form.OneRtt why) (ap (λ (x : At t). x.state) tried ∙ tried_same m form.OneRtt a)
+        (record { quiet = quiet; size = size; may = may; now = refl; kill = sym is ∙ some }));
+    leads = moved ∙ ap (λ (x : At t). move_to (Say Killed) (killed_after why x)) tried;
     answer = is_sent;
     bytes = empty;
     full = ap length empty ∙ sym (ap sent_size is_sent);
   }
 
   -- or is sealed
-  pub probe_ends : (m : Meaning t) (time size : ℕ) (a b : At t) (batch : Batch) (quiet : Quiet) (killed : Option ConnectionError) (sent : Transmit) (old buffer : List ℕ) → MayProbe m time a.state batch quiet size → killed ≡ kill_in batch a.state form.OneRtt → killed ≡ None →
-      b ≡ ending_after m time (Probed quiet size) batch a → Some sent ≡ sent_out (Probed quiet size) (transmit_with a.state batch) → buffer ≡ bytes_out m time (Probed quiet size) batch a [] → length buffer ≡ sent.size → EndsSo m time (going a batch old) b (Some sent) buffer
-  probe_ends m time size a b batch quiet killed sent old buffer may is none moved is_sent spelled full = record {
-    packets = [];
-    ending = Probed quiet size;
-    may = tt;
-    ends = (may, sym is ∙ none);
-    leads = moved;
-    answer = is_sent;
-    bytes = spelled;
-    full = full;
-  }
+  pub probe_ends : (m : Meaning t) (time size : ℕ) (a c b : At t) (batch : Batch) (quiet : Quiet) (killed : Option ConnectionError) (sent : Transmit) (old buffer : List ℕ) → c ≡ tried_after m form.OneRtt a → MayProbe m time c.state batch quiet size →
+      killed ≡ kill_in batch c.state form.OneRtt → killed ≡ None → b ≡ probed_after m time size quiet batch c → Some sent ≡ sent_out (Probed quiet size) (transmit_with c.state batch) → buffer ≡ probe_bytes m time size quiet batch c → length buffer ≡ sent.size →
+      EndsSo m time (going a batch old) b (Some sent) buffer
+  unfolding ending_after
+  probe_ends m time size a c b batch quiet killed sent old buffer tried may is none moved is_sent spelled full =
+      let same : c.state ≡ tried_view m a.state form.OneRtt = ap (λ (x : At t). x.state) tried ∙ tried_same m form.OneRtt a in
+      record {
+        packets = [];
+        ending = Probed quiet size;
+        may = tt;
+        ends = (subst (λ (v : View t). MayProbe m time v batch quiet size) same may, sym (ap (λ (v : View t). kill_in batch v form.OneRtt) same) ∙ sym is ∙ none);
+        leads = moved ∙ ap (λ (x : At t). probed_after m time size quiet batch x) tried;
+        answer = is_sent ∙ ap (λ (x : Transmit). sent_out (Probed quiet size) x) (ap (λ (x : At t). transmit_with x.state batch) tried ∙ tried_sent m form.OneRtt a batch);
+        bytes = spelled ∙ ap (λ (x : At t). probe_bytes m time size quiet batch x) tried;
+        full = full;
+      }

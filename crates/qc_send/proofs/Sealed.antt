@@ -37,7 +37,8 @@ use Rattle.qc_state.specs.Lower.{packet_flown}
 use Rattle.qc_state.specs.Moves.{Seal, armed_with, keys_move, life_move, lower_move, move_to, numbers_move, paths_move, setup_move, state_move, waiting_move}
 use Rattle.qc_state.specs.Numbers.{acked_number, coming_number, is_skipped, next_number, number_used}
 use Rattle.qc_state.specs.Paths.{most_on, path_kept}
-use Rattle.qc_state.specs.Sending.{begun_view, flown_after, header_in, is_last_in, owes_in, room_of, spent_after}
+use Rattle.qc_state.specs.Batches.{is_last_in}
+use Rattle.qc_state.specs.Sending.{begun_view, flown_after, header_in, owes_in, room_of, spent_after}
 use Rattle.qc_state.specs.Spaces.{is_space, space_of}
 use Rattle.qc_state.specs.Types.{Types, Meaning}
 use Rattle.qc_state.specs.View.{View, At, at}

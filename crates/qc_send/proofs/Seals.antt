@@ -17,7 +17,8 @@ use Rattle.qc_state.specs.Moves.{Seal, Take, move_to, state_move}
 use Rattle.qc_state.specs.Numbers.{next_number}
 use Rattle.qc_state.specs.Offers.{offers_in}
 use Rattle.qc_state.specs.Spaces.{space_of}
-use Rattle.qc_state.specs.Sending.{Carries, Going, IsPadded, LacksAckRoom, MayBegin, MayFollow, SendsOne, batch_grown, batch_opened, begun_after, begun_batch, begun_view, fills_up, flown_after, going, holds_owed, is_flown, is_key_nearly_used_up, packet_after, packet_bytes, packet_size, padding_in, room_beside, room_in, room_of, sealed_in}
+use Rattle.qc_state.specs.Batches.{batch_grown, batch_opened}
+use Rattle.qc_state.specs.Sending.{Carries, Going, IsPadded, LacksAckRoom, MayBegin, MayFollow, SendsOne, begun_after, begun_batch, begun_view, fills_up, flown_after, going, holds_owed, is_flown, is_key_nearly_used_up, packet_after, packet_bytes, packet_size, padding_in, room_beside, room_in, room_of, sealed_in}
 use Rattle.qc_state.specs.Types.{Types, Meaning}
 use Rattle.qc_state.specs.View.{View, At, at}
 use Rattle.qc_send.proofs.Begins.{begun_is, begun_state}
@@ -178,7 +179,7 @@ module _ {t : Types} where
       mid ≡ state_move (Take (number_space form) fs) e → least ≡ least_by next (batch_planned mid form nearly fs c) c.filled →
       b ≡ move_to (Seal time form (next_number mid.numbers (number_space form)) (packet_size mid form (padded_to mid form least fs)) (padded_to mid form least fs)) (at mid g.now.did) →
       buffer ≡ g.out ++ packet_bytes m mid form (padded_to mid form least fs) → size ≡ packet_size mid form (padded_to mid form least fs) → padding ≡ padding_to mid form least fs → fills ≡ fills_up mid form (padded_to mid form least fs) →
-      counts ≡ is_flown mid (padded_to mid form least fs) → f ≡ flown_after m time size counts b → batch ≡ batch_grown form number size padding fills nearly c → SendsOne m time g (going f batch buffer)
+      counts ≡ is_flown mid (padded_to mid form least fs) → f ≡ flown_after m time size counts b → batch ≡ batch_grown form number size padding fills nearly c → SendsOne m time form g (going f batch buffer)
   unfolding begun_view
   seals_taken opens first due nearly fills counts m time form g e mid b f c batch buffer next left room least number size padding fs is_first is_due is_nearly may roomy begun is_c is_left is_room wide is_number taken full probes is_mid is_least is_b is_buffer
       is_size is_padding is_fills is_counts is_f is_batch =
@@ -210,6 +211,7 @@ module _ {t : Types} where
       is_batch ∙ (λ i. batch_grown form (is_number i) ((is_size ∙ size_e) i) (padding_e i) (fills_e i) (is_nearly i) (is_c i)) in
       record {
         packet = record { form = form; opens = opens; frames = gs };
+        same = refl;
         may = may_follow m time g.now.state e g.batch c form opens due gs may (begun_state opens g.now e id begun) is_c is_due
             (subst (λ (x : Bool). IsCarried x due g.batch.made time e c form gs) (begun_closing g.now.state id opens g.batch c is_c) carried);
         leads = leads_by m time g e form opens gs f batch buffer begun now grown (is_buffer ∙ ap (λ (xs : List ℕ). g.out ++ xs) bytes_e);

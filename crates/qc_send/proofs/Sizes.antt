@@ -10,7 +10,7 @@ use Rattle.qc_state.specs.declared.form.Form.{Form}
 use Rattle.qc_state.specs.declared.transmit.Batch.{Batch}
 use Rattle.qc_state.specs.declared.transmit.TheConstants.{JOINING_SIZE}
 use Rattle.qc_state.specs.Forms.{is_one_rtt}
-use Rattle.qc_state.specs.Sending.{batch_begun, batch_grown, batch_opened, is_closed_up, is_done, is_in_order, is_last_in, next_segment, takes_another, wanted_by, wanted_size, widens}
+use Rattle.qc_state.specs.Batches.{batch_begun, batch_grown, batch_opened, is_closed_up, is_done, is_in_order, is_last_in, next_segment, takes_another, wanted_by, wanted_size, widens}
 use Rattle.qc_state.specs.Spaces.{is_space}
 
 -- ---- tests

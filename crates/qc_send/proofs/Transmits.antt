@@ -6,11 +6,11 @@ use Rattle.qc_state.specs.declared.life.ConnectionError.{ConnectionError}
 use Rattle.qc_state.specs.declared.transmit.Batch.{Batch}
 use Rattle.qc_state.specs.declared.transmit.Transmit.{Transmit}
 use Rattle.qc_streams.specs.declared.fault.ReadFault.TheVariants.{Blocked}
-use Rattle.qc_send.specs.Ending.{EndsSo, ending_of, held_if}
+use Rattle.qc_send.specs.Ending.{EndsSo, ending_of, held_if, SendsUpTo}
 use Rattle.qc_send.specs.Joining.{HeldIf, IsFull}
 use Rattle.qc_frame.specs.Frame.{FrameValue}
 use Rattle.qc_state.specs.Forms.{number_space}
-use Rattle.qc_state.specs.Moves.{Arm, Begin, Move, MayMove, Say, Seal, Skip, Spend, Take, move_to, paths_move, setup_move, state_move}
+use Rattle.qc_state.specs.Moves.{Arm, Begin, Move, MayMove, Say, Seal, Skip, Spend, Take, move_to, paths_move, setup_move, state_move, Update}
 use Rattle.qc_state.specs.Numbers.{next_number}
 use Rattle.qc_state.specs.Paths.{path_kept}
 use Rattle.qc_state.specs.Sending.{Died, Dies, Going, MayEnd, MayTransmit, SendsAll, Transmits, batch_from, ending_after, finished_after, going, going_from, gone_after, packet_size, packets_after, sent_size, transmit_after, transmit_bytes, transmit_of, transmit_with}
@@ -19,6 +19,8 @@ use Rattle.qc_state.specs.Stopping.{killed_after}
 use Rattle.qc_state.specs.Types.{Types, Meaning}
 use Rattle.qc_state.specs.View.{View, At}
 use Rattle.qc_state.proofs.Transmitted.{IsPacketMove, IsSealable, holds_packets}
+use Rattle.qc_state.specs.Updating.{tried_after, tried_view}
+use Rattle.qc_state.proofs.Tried.{holds_tried, tried_same}
 
 module _ {t : Types} where
   -- what says where datagrams go, and how, is as before
@@ -37,6 +39,7 @@ module _ {t : Types} where
   unfolding move_to state_move paths_move setup_move path_kept word_drawn
   way_move (Begin id opens) p a may = record { remote = refl; marks = refl; fixed = refl }
   way_move Skip p a may = record { remote = refl; marks = refl; fixed = refl }
+  way_move (Update fresh session) p a may = record { remote = refl; marks = refl; fixed = refl }
   way_move (Spend tokens) p a may = record { remote = refl; marks = refl; fixed = refl }
   way_move (Arm due) p a may = record { remote = refl; marks = refl; fixed = refl }
   way_move _ p a may = absurd p
@@ -49,6 +52,10 @@ module _ {t : Types} where
   way_same : (a b : At t) (batch : Batch) → KeepsWay a b → transmit_with b.state batch ≡ transmit_with a.state batch
   unfolding transmit_with
   way_same a b batch h = cc
+
+  -- an update that is tried leaves where they go
+  pub tried_sent : (m : Meaning t) (f : Form) (a : At t) (batch : Batch) → transmit_with (tried_after m f a).state batch ≡ transmit_with a.state batch
+  tried_sent m f a batch = way_same a (tried_after m f a) batch (holds_tried m KeepsWay way_here (λ b may. way_move (Update _ _) tt b may) f a)
 
   -- so the datagrams of packets go where they would have gone before
   sent_same : (m : Meaning t) (time : ℕ) (g h : Going t) (batch : Batch) → SendsAll m time g h → transmit_with h.now.state batch ≡ transmit_with g.now.state batch
@@ -103,15 +110,16 @@ module _ {t : Types} where
       }
 
   -- with the end of the connection
-  pub dies_so : (m : Meaning t) (time : ℕ) (g h : Going t) (b : At t) (why : ConnectionError) (sent : Option Transmit) (buffer : List ℕ) → SendsAll m time g h → Dies m time h.now.state h.batch why → b ≡ move_to (Say Killed) (killed_after why h.now) →
-      sent ≡ None → buffer ≡ [] → EndsSo m time g b sent buffer
+  pub dies_so : (m : Meaning t) (time : ℕ) (g h : Going t) (b : At t) (f : Form) (why : ConnectionError) (sent : Option Transmit) (buffer : List ℕ) → SendsUpTo m time (Some f) g h → Dies m time h.now.state h.batch f why →
+      b ≡ move_to (Say Killed) (killed_after why h.now) → sent ≡ None → buffer ≡ [] → EndsSo m time g b sent buffer
   unfolding ending_after
-  dies_so m time g h b why sent buffer s dies is_b is_sent empty = record {
-    packets = s.packets;
-    ending = Died why;
-    may = s.may;
-    ends = inl (subst (λ (x : Going t). Dies m time x.now.state x.batch why) s.leads dies);
-    leads = is_b ∙ ap (λ (x : Going t). move_to (Say Killed) (killed_after why x.now)) s.leads;
+  dies_so m time g h b f why sent buffer s dies is_b is_sent empty = record {
+    packets = s.sends.packets;
+    ending = Died f why;
+    may = s.sends.may;
+    ends = inl (subst (λ (x : Going t). Dies m time (tried_view m x.now.state f) x.batch f why) s.sends.leads
+        (subst (λ (v : View t). Dies m time v s.last.batch f why) (tried_same m f s.last.now) (subst (λ (x : Going t). Dies m time x.now.state x.batch f why) s.leads dies)));
+    leads = is_b ∙ ap (λ (x : Going t). move_to (Say Killed) (killed_after why x.now)) s.leads ∙ ap (λ (x : Going t). move_to (Say Killed) (killed_after why (tried_after m f x.now))) s.sends.leads;
     answer = is_sent;
     bytes = empty;
     full = ap length empty ∙ sym (ap sent_size is_sent);

@@ -8,7 +8,8 @@ use Rattle.qc_state.specs.declared.form.Form.{Form}
 use Rattle.qc_state.specs.declared.transmit.Batch.{Batch}
 use Rattle.qc_state.specs.Forms.{number_space}
 use Rattle.qc_state.specs.Numbers.{next_number}
-use Rattle.qc_state.specs.Sending.{batch_grown, fills_up, header_in}
+use Rattle.qc_state.specs.Batches.{batch_grown}
+use Rattle.qc_state.specs.Sending.{fills_up, header_in}
 use Rattle.qc_state.specs.Types.{Types}
 use Rattle.qc_state.specs.View.{View}
 

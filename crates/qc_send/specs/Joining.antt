@@ -4,20 +4,21 @@ use Rattle.qc_base.specs.declared.side.SpaceId.{SpaceId}
 use Rattle.qc_base.specs.declared.side.SpaceId.TheVariants.{Initial, Handshake, «Data»}
 use Rattle.qc_send.specs.declared.joining.Further.{Further}
 use Rattle.qc_send.specs.declared.joining.Further.TheVariants as further
+use Rattle.qc_send.specs.declared.sending.Dying.{Dying}
 use Rattle.qc_send.specs.declared.sending.Next.{Next}
 use Rattle.qc_send.specs.declared.sending.Next.TheVariants as next
 use Rattle.qc_send.specs.declared.sending.Outcome.{Outcome}
 use Rattle.qc_send.specs.declared.sending.Outcome.TheVariants as outcome
 use Rattle.qc_state.specs.declared.deeds.Quiet.{Quiet}
 use Rattle.qc_state.specs.declared.deeds.Quiet.TheVariants.{Congestion, Pacing}
-use Rattle.qc_state.specs.declared.life.ConnectionError.{ConnectionError}
 use Rattle.qc_state.specs.declared.transmit.Batch.{Batch}
 use Rattle.qc_state.specs.declared.transmit.TheConstants.{JOINING_SIZE}
 use Rattle.qc_state.specs.Acks.{IsLongAck, is_ack_owed}
 use Rattle.qc_state.specs.Keys.{form_in}
 use Rattle.qc_state.specs.Life.{is_drained, is_open}
 use Rattle.qc_state.specs.Offers.{datagram_fits, wants_sending}
-use Rattle.qc_state.specs.Sending.{Dies, HasTurn, IsBehind, IsEnded, IsHeld, MayStand, begun_view, is_done, is_in_order, is_whole, next_segment, owes_in, room_of, takes_another, wanted_size}
+use Rattle.qc_state.specs.Batches.{IsBehind, is_done, is_in_order, is_whole, next_segment, takes_another, wanted_size}
+use Rattle.qc_state.specs.Sending.{Dies, HasTurn, IsEnded, IsHeld, MayStand, begun_view, owes_in, room_of}
 use Rattle.qc_state.specs.Spaces.{is_space, space_of}
 use Rattle.qc_state.specs.Types.{Types, Meaning}
 use Rattle.qc_state.specs.View.{View}
@@ -56,7 +57,7 @@ IsBelow id (Some other) = packets_from other < packets_from id
 abbrev pub FallsTo : SpaceId → Next → Type 0
 FallsTo id (next.Joins other) = packets_from other < packets_from id
 FallsTo id next.Full = Unit {0}
-FallsTo id (next.Dies why) = Unit {0}
+FallsTo id (next.Dies dying) = Unit {0}
 
 -- ---- sizes
 
@@ -110,13 +111,13 @@ made_with false made = made
 abbrev pub MadeIs : (made after : ℕ) → Next → Type 0
 MadeIs made after (next.Joins id) = after ≡ made
 MadeIs made after next.Full = after ≡ made
-MadeIs made after (next.Dies why) = Unit {0}
+MadeIs made after (next.Dies dying) = Unit {0}
 
 -- where another datagram begins, fewer may follow than before
 abbrev pub LeavesFewer : (before after : Batch) → Outcome → Type 0
 LeavesFewer b c (outcome.Begins id) = c.most - c.made < b.most - b.made
 LeavesFewer b c (outcome.Ends paced) = Unit {0}
-LeavesFewer b c (outcome.Dies why) = Unit {0}
+LeavesFewer b c (outcome.Dies dying) = Unit {0}
 
 -- a packet may join behind the last one: no key is to seal the close as its next packet, and the open datagram takes another one
 abbrev pub joins_more : Batch → Bool
@@ -213,12 +214,12 @@ module _ {t : Types} where
   abbrev pub NextIs : Meaning t → (time : ℕ) → View t → Batch → Next → Type 0
   NextIs m time s b (next.Joins id) = MayTake m time s b id false
   NextIs m time s b next.Full = IsFull time s b
-  NextIs m time s b (next.Dies why) = Dies m time s b why
+  NextIs m time s b (next.Dies dying) = Dies m time s b dying.form dying.why
 
   -- a datagram was sealed, or the connection ends
-  abbrev pub FilledIs : Meaning t → (time : ℕ) → View t → Batch → (why : Option ConnectionError) → Type 0
+  abbrev pub FilledIs : Meaning t → (time : ℕ) → View t → Batch → Option Dying → Type 0
   FilledIs m time s b None = IsFull time s b
-  FilledIs m time s b (Some why) = Dies m time s b why
+  FilledIs m time s b (Some dying) = Dies m time s b dying.form dying.why
 
   -- what follows a datagram that no packet joins any more
   abbrev pub FurtherIs : Meaning t → (time : ℕ) → View t → Batch → Further → Type 0
@@ -236,4 +237,4 @@ module _ {t : Types} where
   abbrev pub OutcomeIs : Meaning t → (time : ℕ) → View t → Batch → Outcome → Type 0
   OutcomeIs m time s b (outcome.Begins id) = MayTake m time s b id true
   OutcomeIs m time s b (outcome.Ends paced) = IsFull time s b × HeldIf m time s b paced
-  OutcomeIs m time s b (outcome.Dies why) = Dies m time s b why
+  OutcomeIs m time s b (outcome.Dies dying) = Dies m time s b dying.form dying.why

@@ -4,7 +4,8 @@ ghost use Rattle.std.specs.Prelude.{◌≡◌, ◌==◌, ◌||◌, not, true, fa
 ghost use Rattle.qc_send.specs.Joining.{FurtherIs, IsFull, JoiningIs, JoinsIs, LacksIn, begins_behind, further_by, goes_on, is_later, is_small, joins_more, passes};
 ghost use Rattle.qc_state.specs.Keys.{form_in};
 ghost use Rattle.qc_state.specs.Offers.{wants_sending};
-ghost use Rattle.qc_state.specs.Sending.{begun_view, is_in_order, is_used_up, room_of};
+ghost use Rattle.qc_state.specs.Batches.{is_in_order};
+ghost use Rattle.qc_state.specs.Sending.{begun_view, is_used_up, room_of};
 ghost use Rattle.qc_state.specs.Spaces.{space_of};
 ghost use Rattle.qc_state.specs.View.{ideal};
 

@@ -1,7 +1,7 @@
 //! A probe of the path's size: a packet of 1-RTT that is larger than the datagrams to the path so far, alone in its datagram.
 
 ghost use Rattle.std.specs.Prelude.{◌≡◌, [], None, Some, length, OnOk, IfOk};
-ghost use Rattle.qc_state.specs.Sending.{MayProbe, Probed, bytes_out, ending_after, kill_in, sent_out, transmit_with};
+ghost use Rattle.qc_state.specs.Sending.{MayProbe, Probed, kill_in, probe_bytes, probed_after, sent_out, transmit_with};
 ghost use Rattle.qc_state.specs.declared.deeds.Quiet.TheVariants.{Killed};
 ghost use Rattle.qc_state.specs.declared.form.Form.TheVariants.{OneRtt};
 ghost use Rattle.qc_state.specs.View.{ideal, held};
@@ -44,8 +44,8 @@ pub(crate) fn seal_probe<U: Suite>(
     requires may { MayProbe ⟦<U as Means>⟧.meaning now (ideal U.Random.stream core.old) batch.now quiet size }
     requires fresh { kill_in batch.now (ideal U.Random.stream core.old) OneRtt ≡ None }
     requires empty { buf.old.items ≡ [] }
-    ensures leads { OnOk result ((held U.Random.stream core.new did.new) ≡ ending_after ⟦<U as Means>⟧.meaning now (Probed quiet size) batch.now (held U.Random.stream core.old did.old)) }
-    ensures bytes { OnOk result (buf.new.items ≡ bytes_out ⟦<U as Means>⟧.meaning now (Probed quiet size) batch.now (held U.Random.stream core.old did.old) []) }
+    ensures leads { OnOk result ((held U.Random.stream core.new did.new) ≡ probed_after ⟦<U as Means>⟧.meaning now size quiet batch.now (held U.Random.stream core.old did.old)) }
+    ensures bytes { OnOk result (buf.new.items ≡ probe_bytes ⟦<U as Means>⟧.meaning now size quiet batch.now (held U.Random.stream core.old did.old)) }
     ensures sent { IfOk result (λ sent. Some sent ≡ sent_out (Probed quiet size) (transmit_with (ideal U.Random.stream core.old) batch.now)) }
     ensures size { IfOk result (λ sent. length buf.new.items ≡ sent.size) }
 {

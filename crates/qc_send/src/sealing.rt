@@ -13,7 +13,8 @@ ghost use Rattle.qc_state.specs.Forms.{number_space};
 ghost use Rattle.qc_state.specs.Keys.{has_keys_for, header_key, packet_key, reaches_limit, usage_of};
 ghost use Rattle.qc_state.specs.Moves.{Seal, move_to};
 ghost use Rattle.qc_state.specs.Numbers.{next_number, acked_number};
-ghost use Rattle.qc_state.specs.Sending.{begun_after, begun_batch, fills, fills_up, finished_after, flips_now, header_in, is_flown, packet_bytes, packet_size, room_of, sealed_with, segment_of, spared_after, transmit_with};
+ghost use Rattle.qc_state.specs.Batches.{segment_of};
+ghost use Rattle.qc_state.specs.Sending.{begun_after, begun_batch, fills, fills_up, finished_after, flips_now, header_in, is_flown, packet_bytes, packet_size, room_of, sealed_with, spared_after, transmit_with};
 ghost use Rattle.qc_state.specs.Spaces.{is_space};
 ghost use Rattle.qc_state.specs.View.{ideal, held};
 

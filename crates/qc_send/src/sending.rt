@@ -1,13 +1,13 @@
 //! One transmit: datagrams of one size, but for the last one, and of one packet or more each.
 
 ghost use Rattle.std.specs.Prelude.{◌≡◌, ◌+◌, ◌≤◌, [], true, None, Some, length, OnOk, OnErr, IfOk};
-ghost use Rattle.qc_send.specs.Ending.{EndsSo, ending_of, held_if};
+ghost use Rattle.qc_send.specs.Ending.{EndsSo, SendsUpTo, ending_of, form_dying, held_if, next_dying, outcome_dying};
 ghost use Rattle.qc_send.specs.Failing.{pings_of};
 ghost use Rattle.qc_send.specs.Joining.{FallsTo, FilledIs, FollowIs, IsBelow, IsRoomy, LeavesFewer, MadeIs, MayTake, NextIs, OutcomeIs, follows, made_with, outcome_of};
 ghost use Rattle.qc_state.specs.Forms.{number_space};
 ghost use Rattle.qc_state.specs.Moves.{Say, move_to};
 ghost use Rattle.qc_state.specs.declared.deeds.Quiet.TheVariants.{Killed};
-ghost use Rattle.qc_state.specs.Sending.{MayBegin, SendsAll, SendsOne, Transmits, batch_from, ending_after, going, held_after, quiet_of, transmit_with};
+ghost use Rattle.qc_state.specs.Sending.{MayBegin, SendsOne, Transmits, batch_from, ending_after, going, held_after, quiet_of, transmit_with};
 ghost use Rattle.qc_state.specs.Stopping.{killed_after};
 ghost use Rattle.qc_state.specs.View.{ideal, held};
 
@@ -25,6 +25,15 @@ use qc_state::spaces::Spaces;
 use qc_state::{Batch, ConnectionError, Dids, Form, Means, Quiet, Suite, Transmit};
 use std::alloc::{AllocError, Global};
 
+/// The connection ends: a packet was to begin that can't.
+#[derive(Drop)]
+pub(crate) struct Dying {
+    /// The form of the packet.
+    pub form: Form,
+    /// The reason.
+    pub why: ConnectionError,
+}
+
 /// What follows a packet.
 #[derive(Drop)]
 pub(crate) enum Next {
@@ -32,8 +41,8 @@ pub(crate) enum Next {
     Joins(SpaceId),
     /// None joins it.
     Full,
-    /// The connection ends for this reason: a packet was to begin that can't.
-    Dies(ConnectionError),
+    /// The connection ends so.
+    Dies(Dying),
 }
 
 /// What follows a datagram.
@@ -43,8 +52,8 @@ pub(crate) enum Outcome {
     Begins(SpaceId),
     /// The transmit ends, and perhaps the pacer holds another one back.
     Ends(bool),
-    /// The connection ends for this reason.
-    Dies(ConnectionError),
+    /// The connection ends so.
+    Dies(Dying),
 }
 
 /// What is known of the datagrams of a transmit that begins, which is asked for at most so many.
@@ -83,7 +92,7 @@ fn seal_packet<U: Suite>(
     requires begins { MayBegin ⟦<U as Means>⟧.meaning now (ideal U.Random.stream core.old) batch.old form opens }
     requires roomy { IsRoomy batch.old (number_space form) opens }
     requires full { length buf.old.items ≡ batch.old.total }
-    ensures sends { OnOk result (SendsOne ⟦<U as Means>⟧.meaning now (going (held U.Random.stream core.old did.old) batch.old buf.old.items) (going (held U.Random.stream core.new did.new) batch.new buf.new.items)) }
+    ensures sends { OnOk result (SendsOne ⟦<U as Means>⟧.meaning now form (going (held U.Random.stream core.old did.old) batch.old buf.old.items) (going (held U.Random.stream core.new did.new) batch.new buf.new.items)) }
     ensures next { IfOk result (λ next. FollowIs ⟦<U as Means>⟧.meaning now (ideal U.Random.stream core.new) batch.new next) }
     ensures falls { IfOk result (λ next. IsBelow (number_space form) next) }
     ensures made { OnOk result (batch.new.made ≡ made_with opens batch.old.made) }
@@ -124,8 +133,8 @@ fn follows(next: Option<SpaceId>) -> Next
     }
 }
 
-/// Seals one packet of this space, in a datagram that begins with it, or that it joins; or the connection ends, where the packet can't begin.
-/// Want of memory is the only refusal.
+/// Seals one packet of this space, in a datagram that begins with it, or that it joins; or the connection ends, where the packet can't begin. An
+/// update of its keys is tried before. Want of memory is the only refusal.
 fn packet_in<U: Suite>(
     core: &mut Core<U>,
     did: &mut Dids,
@@ -138,7 +147,7 @@ fn packet_in<U: Suite>(
 ) -> Result<Next, AllocError>
     requires takes { MayTake ⟦<U as Means>⟧.meaning now (ideal U.Random.stream core.old) batch.old space opens }
     requires full { length buf.old.items ≡ batch.old.total }
-    ensures sends { OnOk result (SendsAll ⟦<U as Means>⟧.meaning now (going (held U.Random.stream core.old did.old) batch.old buf.old.items) (going (held U.Random.stream core.new did.new) batch.new buf.new.items)) }
+    ensures sends { IfOk result (λ next. SendsUpTo ⟦<U as Means>⟧.meaning now (next_dying next) (going (held U.Random.stream core.old did.old) batch.old buf.old.items) (going (held U.Random.stream core.new did.new) batch.new buf.new.items)) }
     ensures next { IfOk result (λ next. NextIs ⟦<U as Means>⟧.meaning now (ideal U.Random.stream core.new) batch.new next) }
     ensures falls { IfOk result (λ next. FallsTo space next) }
     ensures made { IfOk result (λ next. MadeIs (made_with opens batch.old.made) batch.new.made next) }
@@ -146,8 +155,9 @@ fn packet_in<U: Suite>(
     ensures full { OnOk result (length buf.new.items ≡ batch.new.total) }
 {
     let form = form_in(core, space);
+    core.try_update(did, form);
     match kill(core, batch, form) {
-        Some(why) => return Ok(Next::Dies(why)),
+        Some(why) => return Ok(Next::Dies(Dying { form, why })),
         None => {}
     }
     let next = seal_packet(core, did, alloc, now, batch, form, opens, buf)?;
@@ -164,12 +174,12 @@ fn fill<U: Suite>(
     batch: &mut Batch,
     first: SpaceId,
     buf: &mut Vec<u8>,
-) -> Result<Option<ConnectionError>, AllocError>
+) -> Result<Option<Dying>, AllocError>
     requires takes { MayTake ⟦<U as Means>⟧.meaning now (ideal U.Random.stream core.old) batch.old first true }
     requires full { length buf.old.items ≡ batch.old.total }
-    ensures sends { OnOk result (SendsAll ⟦<U as Means>⟧.meaning now (going (held U.Random.stream core.old did.old) batch.old buf.old.items) (going (held U.Random.stream core.new did.new) batch.new buf.new.items)) }
-    ensures ends { IfOk result (λ why. FilledIs ⟦<U as Means>⟧.meaning now (ideal U.Random.stream core.new) batch.new why) }
-    ensures made { IfOk result (λ why. why ≡ None → batch.new.made ≡ batch.old.made + 1) }
+    ensures sends { IfOk result (λ dying. SendsUpTo ⟦<U as Means>⟧.meaning now (form_dying dying) (going (held U.Random.stream core.old did.old) batch.old buf.old.items) (going (held U.Random.stream core.new did.new) batch.new buf.new.items)) }
+    ensures ends { IfOk result (λ dying. FilledIs ⟦<U as Means>⟧.meaning now (ideal U.Random.stream core.new) batch.new dying) }
+    ensures made { IfOk result (λ dying. dying ≡ None → batch.new.made ≡ batch.old.made + 1) }
     ensures most { OnOk result (batch.new.most ≡ batch.old.most) }
     ensures full { OnOk result (length buf.new.items ≡ batch.new.total) }
 {
@@ -183,7 +193,7 @@ fn fill<U: Suite>(
                 opens = false;
             }
             Next::Full => return Ok(None),
-            Next::Dies(why) => return Ok(Some(why)),
+            Next::Dies(dying) => return Ok(Some(dying)),
         }
     }
 }
@@ -212,14 +222,14 @@ fn datagram_in<U: Suite>(
 ) -> Result<Outcome, AllocError>
     requires takes { MayTake ⟦<U as Means>⟧.meaning now (ideal U.Random.stream core.old) batch.old space true }
     requires full { length buf.old.items ≡ batch.old.total }
-    ensures sends { OnOk result (SendsAll ⟦<U as Means>⟧.meaning now (going (held U.Random.stream core.old did.old) batch.old buf.old.items) (going (held U.Random.stream core.new did.new) batch.new buf.new.items)) }
+    ensures sends { IfOk result (λ outcome. SendsUpTo ⟦<U as Means>⟧.meaning now (outcome_dying outcome) (going (held U.Random.stream core.old did.old) batch.old buf.old.items) (going (held U.Random.stream core.new did.new) batch.new buf.new.items)) }
     ensures next { IfOk result (λ outcome. OutcomeIs ⟦<U as Means>⟧.meaning now (ideal U.Random.stream core.new) batch.new outcome) }
     ensures falls { IfOk result (λ outcome. LeavesFewer batch.old batch.new outcome) }
     ensures full { OnOk result (length buf.new.items ≡ batch.new.total) }
 {
     let dies = fill(core, did, alloc, now, batch, space, buf)?;
     match dies {
-        Some(why) => return Ok(Outcome::Dies(why)),
+        Some(dying) => return Ok(Outcome::Dies(dying)),
         None => {}
     }
     let found = find_further(core, alloc, now, batch)?;
@@ -337,8 +347,8 @@ fn seal_all<U: Suite>(
                 let sent = end(core, did, now, batch, paced)?;
                 return Ok(sent);
             }
-            Outcome::Dies(why) => {
-                let sent = die(core, did, why, buf)?;
+            Outcome::Dies(dying) => {
+                let sent = die(core, did, dying.why, buf)?;
                 return Ok(sent);
             }
         }
@@ -369,6 +379,7 @@ fn seal_none<U: Suite>(
         }
         Some(size) => size,
     };
+    core.try_update(did, Form::OneRtt);
     match kill(core, batch, Form::OneRtt) {
         Some(why) => {
             let sent = die(core, did, why, buf)?;

@@ -5,7 +5,8 @@ use Rattle.std.proofs.lemmas.Bool.Decides.{nat_tests}
 use Rattle.qc_state.specs.declared.transmit.Batch.{Batch}
 use Rattle.qc_state.specs.Forms.{number_space}
 use Rattle.qc_state.specs.declared.form.Form.{Form}
-use Rattle.qc_state.specs.Sending.{Going, MayFollow, MayStand, Sent, batch_grown, batch_opened, packet_after, begun_batch, next_segment, takes_another}
+use Rattle.qc_state.specs.Batches.{batch_grown, batch_opened, next_segment, takes_another}
+use Rattle.qc_state.specs.Sending.{Going, MayFollow, MayStand, Sent, packet_after, begun_batch}
 use Rattle.qc_state.specs.Types.{Types, Meaning}
 use Rattle.qc_state.specs.View.{View}
 use Rattle.qc_state.specs.Spaces.{space_of}

@@ -12,7 +12,7 @@ use Rattle.qc_state.specs.declared.keys.KeyGroup.{KeyGroup}
 use Rattle.qc_state.specs.declared.keys.OneRttKeys.{OneRttKeys}
 use Rattle.qc_state.specs.declared.keys.SpaceKeys.{SpaceKeys}
 use Rattle.qc_state.specs.declared.timers.Timers.{Timers}
-use Rattle.qc_state.specs.Keys.{form_in, has_keys, has_keys_for, key_acked, key_discarded, key_opened, ring_acked, ring_discarded, ring_opened}
+use Rattle.qc_state.specs.Keys.{form_in, has_keys, has_keys_for, key_acked, key_discarded, key_opened, key_updated, ring_acked, ring_discarded, ring_opened, ring_updated}
 use Rattle.qc_state.specs.Timers.{timers_keeping}
 
 module _ {H P : Type 0} where
@@ -56,6 +56,16 @@ module _ {H P : Type 0} where
   acked_moves v Initial n = record { initial = refl; handshake = refl; highest = refl; there = refl }
   acked_moves v Handshake n = record { initial = refl; handshake = refl; highest = refl; there = refl }
   acked_moves v «Data» n = record { initial = refl; handshake = refl; highest = refl; there = acked_there n v.«data» }
+
+  updated_there : (fresh : Option (Fresh P)) (o : Option (OneRttKeys H P)) → is_some (ring_updated fresh o) ≡ is_some o
+  unfolding ring_updated
+  updated_there None o = refl
+  updated_there (Some fresh) None = refl
+  updated_there (Some fresh) (Some k) = refl
+
+  pub updated_moves : (v : KeyGroup H P) (fresh : Option (Fresh P)) → RingMoves v (key_updated v fresh)
+  unfolding key_updated
+  updated_moves v fresh = record { initial = refl; handshake = refl; highest = refl; there = updated_there fresh v.«data» }
 
   pub discarded_moves : (v : KeyGroup H P) → RingMoves v (key_discarded v)
   unfolding key_discarded

@@ -33,5 +33,8 @@ pub mod StreamsSettled
 pub mod StreamsTaken
 pub mod Taken
 pub mod Transmitted
+pub mod Tried
+pub mod TriedTurns
+pub mod Updates
 pub mod WhichOpened
 pub mod Ready

@@ -23,7 +23,7 @@ use Rattle.qc_state.specs.Keys.{epoch_in, ring_of, sets_floor}
 use Rattle.qc_state.specs.Forms.{is_early, number_space}
 use Rattle.qc_state.specs.Headline.{sealed_in, reasons_in, lives_in, entered_number, entered_in, EachNew, came_with, CloseFrom, RisesFrom, Kernel, kernel_of, kernel_after, IsBehind, IsRight, Tells}
 use Rattle.qc_state.specs.Life.{rank_of, is_open, is_closed, is_drained, reason_given, life_raised, life_closed, life_drained, life_established, data_ready, token_learned, token_told, identifiers_wanted, retirement_told, ready_reported, connected_reported, datagram_heard, heard_reported, all_heard_reported, lost_reported, notice_reported, notices_reported, drained_reported}
-use Rattle.qc_state.specs.Moves.{Probe, Move, ClosesOnly, Clock, Ask, Take, Seal, Forget, Enter, Expect, Fail, Accept, Fix, Hear, Ack, Fire, Arm, Pace, Release, Begin, Skip, Come, Read, Write, Ready, Token, Learn, Want, Confirm, Establish, Tell, Hand, Insert, Switch, Retire, Issue, Outlive, Call, Post, PeerClosesToo, PeerCloses, Owe, IsTold, enters, Shut, Raise, Give, Say, ReportReady, ReportConnected, ReportHeard, ReportAllHeard, ReportStream, ReportStreams, ReportLost, ReportNotice, ReportNotices, ReportDrained, state_move, move_to, deeds_move, MayMove, told, arrival_of, numbers_move, life_move, timers_move, Spend, Hold, Finish, Unseal, Discard}
+use Rattle.qc_state.specs.Moves.{Probe, Move, ClosesOnly, Clock, Ask, Take, Seal, Forget, Enter, Expect, Fail, Accept, Fix, Hear, Ack, Fire, Arm, Pace, Release, Begin, Skip, Come, Read, Write, Ready, Token, Learn, Want, Confirm, Establish, Tell, Hand, Insert, Switch, Retire, Issue, Outlive, Call, Post, PeerClosesToo, PeerCloses, Owe, IsTold, enters, Shut, Raise, Give, Say, ReportReady, ReportConnected, ReportHeard, ReportAllHeard, ReportStream, ReportStreams, ReportLost, ReportNotice, ReportNotices, ReportDrained, state_move, move_to, deeds_move, MayMove, told, arrival_of, numbers_move, life_move, timers_move, Spend, Hold, Finish, Unseal, Discard, Update}
 use Rattle.qc_state.specs.Numbers.{next_number, came_in, is_new_in, number_used, number_skipped, used_in, number_entered, number_accepted, number_acked}
 use Rattle.qc_state.specs.Numbers as numbers
 use Rattle.qc_state.specs.Recovering.{probe_timeout_now}
@@ -332,6 +332,7 @@ module _ {t : Types} where
   move_tells id (Ack space n r) s h = next_same id space s (λ w. numbers.acked_in n w) refl refl
   move_tells id (Fire r) s h = behind_here _
   move_tells id (Arm at) s h = behind_here _
+  move_tells id (Update fresh session) s h = behind_here _
   move_tells id Discard s h = behind_here _
   move_tells id Pace s h = behind_here _
   move_tells id Release s h = behind_here _
@@ -396,6 +397,7 @@ module _ {t : Types} where
   clock_kept (Ack space n r) s h = refl
   clock_kept (Fire r) s h = refl
   clock_kept (Arm at) s h = refl
+  clock_kept (Update fresh session) s h = refl
   clock_kept Discard s h = refl
   clock_kept Pace s h = refl
   clock_kept Release s h = refl

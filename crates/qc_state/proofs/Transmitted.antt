@@ -1,6 +1,6 @@
 -- What holds of each move of a transmit holds of the transmit, where of what the pacer spends and the controller is told is known what it
 -- is; and each packet that it seals holds a close, once the connection has closed.
-use Rattle.std.proofs.Common.{◌≡◌, ℕ, ◌+◌, ◌-◌, ◌*◌, ◌≤◌, List, [], ◌∷◌, ◌++◌, replicate, refl, ap, sym, ◌∙◌, subst, Bool, true, false, Option, Some, None, inl, inr, if◌then◌else◌, arith}
+use Rattle.std.proofs.Common.{◌≡◌, ℕ, ◌+◌, ◌-◌, ◌*◌, ◌≤◌, List, [], ◌∷◌, ◌++◌, replicate, refl, ap, sym, ◌∙◌, subst, Bool, true, false, Option, Some, None, inl, inr, if◌then◌else◌, arith, ◌⊎◌}
 use Rattle.std.specs.Prelude.{◌||◌, ◌&&◌, is_none, not, nat_le}
 use Rattle.std.proofs.lemmas.Bool.Decides.{nat_tests}
 use Rattle.std.specs.List.{list_any}
@@ -26,13 +26,15 @@ use Rattle.qc_state.specs.declared.keys.KeyGroup.{KeyGroup}
 use Rattle.qc_state.specs.Forms.{number_space}
 use Rattle.qc_state.specs.Keys.{has_keys, has_keys_for, reaches_limit, usage_of}
 use Rattle.qc_state.specs.Life.{rank_of, is_established, is_open, is_closed, is_drained}
-use Rattle.qc_state.specs.Moves.{Move, ClosesOnly, is_close, Arm, Begin, Forget, Give, Raise, Say, Seal, Shut, Skip, Take, MayMove, move_to, armed_with, Ask, Finish, Hold, Probe, Spend}
+use Rattle.qc_state.specs.Moves.{Update, Move, ClosesOnly, is_close, Arm, Begin, Forget, Give, Raise, Say, Seal, Shut, Skip, Take, MayMove, move_to, armed_with, Ask, Finish, Hold, Probe, Spend}
 use Rattle.qc_state.specs.Numbers.{next_number}
 use Rattle.qc_state.specs.Paths.{is_blocked, is_blocked_behind}
 use Rattle.qc_state.specs.Recovering.{loss_time}
-use Rattle.qc_state.specs.Sending.{Carries, Choice, Closes, MayBegin, MayTransmit, application_close, begun_after, begun_view, close_frame, closing_frame, drops_initial, flown_after, initial_left, is_flown, is_key_used_up, is_used_up, is_token_too_long, kill_in, owes_in, packet_after, packet_size, sealed_in, spared_after, told_close, transmit_after, Sent, Ending, Went, Held, Hushed, Died, ending_after, packets_after, Going, going_from, MayFollow, MayAll, MayEnd, handshake_left, finished_after, gone_after, begun_batch, room_in, room_of, held_after, is_silent, limit_in, next_segment, paced_until, quiet_by, quiet_of, spent_after, told_sent, MayProbe, Probed, is_key_nearly_used_up, probe_begun_after, probe_frames, probe_sealed, probe_size, probed_after}
+use Rattle.qc_state.specs.Batches.{next_segment}
+use Rattle.qc_state.specs.Sending.{going_tried, Carries, Choice, Closes, MayBegin, MayTransmit, application_close, begun_after, begun_view, close_frame, closing_frame, drops_initial, flown_after, initial_left, is_flown, is_key_used_up, is_used_up, is_token_too_long, kill_in, owes_in, packet_after, packet_size, sealed_in, spared_after, told_close, transmit_after, Sent, Ending, Went, Held, Hushed, Died, ending_after, packets_after, Going, going_from, MayFollow, MayAll, MayEnd, handshake_left, finished_after, gone_after, begun_batch, room_in, room_of, held_after, is_silent, limit_in, paced_until, quiet_by, quiet_of, spent_after, told_sent, Dies, DiesProbing, MayProbe, Probed, is_key_nearly_used_up, probe_begun_after, probe_frames, probe_sealed, probe_size, probed_after}
 use Rattle.qc_state.specs.Stopping.{given_after, key_limit_error, killed_after, stopped_after}
 use Rattle.qc_state.specs.Types.{Types, Meaning}
+use Rattle.qc_state.specs.Updating.{tried_after}
 use Rattle.qc_state.specs.View.{View, At, at}
 use Rattle.qc_state.proofs.DatagramSteps.{carried_oldest}
 use Rattle.qc_state.proofs.IdSteps.{carried_next}
@@ -43,6 +45,7 @@ use Rattle.qc_state.specs.StreamFrames.{sealed_steps}
 use Rattle.qc_streams.specs.Steps.{AllMay}
 use Rattle.qc_state.proofs.Probing.{due_established, due_keyed, due_validated, established_alive, established_open, probe_keys, probe_life, probe_paths, probe_ping, sealed_validated}
 use Rattle.qc_state.proofs.Begun.{begun_keys, begun_life, begun_same, holds_begun}
+use Rattle.qc_state.proofs.Tried.{holds_tried, tried_same}
 use Rattle.qc_state.proofs.Telling.{is_none_none, low_rank, open_rank}
 use Rattle.qc_state.specs.declared.transmit.Batch.{Batch}
 use Rattle.qc_state.specs.Spaces.{is_space}
@@ -77,8 +80,9 @@ any_behind : (fs gs : List FrameValue) → list_any is_close gs ≡ true → lis
 any_behind [] gs h = h
 any_behind (f ∷ fs) gs h = any_more (is_close f) _ (any_behind fs gs h)
 
--- the moves with which a packet is begun, and counted in flight: those beside taking and sealing it
+-- the moves with which a packet is begun, behind an update that is tried for it, and counted in flight: those beside taking and sealing it
 abbrev pub IsPacketMove : {t : Types} → Move t → Type 0
+IsPacketMove (Update fresh session) = Unit {0}
 IsPacketMove (Begin id opens) = Unit {0}
 IsPacketMove Skip = Unit {0}
 IsPacketMove (Spend tokens) = Unit {0}
@@ -111,30 +115,42 @@ of_packet (Probe time n bytes q) h = absurd h
 of_packet (Say q) h = absurd h
 of_packet _ h = h
 
--- those beside the one by which the pacer spends, and by which the controller is told
+-- those beside an update, the one by which the pacer spends, and the one by which the controller is told
 abbrev pub IsUntold : {t : Types} → Move t → Type 0
+IsUntold (Update fresh session) = ⊥
 IsUntold (Spend tokens) = ⊥
 IsUntold (Finish bytes control) = ⊥
 IsUntold x = IsSending x
 
 pub untold_sending : {t : Types} (x : Move t) → IsUntold x → IsSending x
+untold_sending (Update fresh session) h = absurd h
 untold_sending (Spend tokens) h = absurd h
 untold_sending (Finish bytes control) h = absurd h
 untold_sending _ h = h
 
--- those of a packet among them
+-- those with which one packet is begun, and counted in flight: without an update
+abbrev pub IsBeginning : {t : Types} → Move t → Type 0
+IsBeginning (Update fresh session) = ⊥
+IsBeginning x = IsPacketMove x
+
+pub beginning_packet : {t : Types} (x : Move t) → IsBeginning x → IsPacketMove x
+beginning_packet (Update fresh session) h = absurd h
+beginning_packet _ h = h
+
+-- those among them beside the one by which the pacer spends
 abbrev pub IsUnspent : {t : Types} → Move t → Type 0
 IsUnspent (Spend tokens) = ⊥
-IsUnspent x = IsPacketMove x
+IsUnspent x = IsBeginning x
 
-unspent_packet : {t : Types} (x : Move t) → IsUnspent x → IsPacketMove x
-unspent_packet (Spend tokens) h = absurd h
-unspent_packet _ h = h
+unspent_beginning : {t : Types} (x : Move t) → IsUnspent x → IsBeginning x
+unspent_beginning (Spend tokens) h = absurd h
+unspent_beginning _ h = h
 
 unspent_untold : {t : Types} (x : Move t) → IsUnspent x → IsUntold x
+unspent_untold (Update fresh session) h = absurd h
 unspent_untold (Spend tokens) h = absurd h
 unspent_untold (Finish bytes control) h = absurd h
-unspent_untold x h = of_packet x h
+unspent_untold x h = of_packet x (beginning_packet x h)
 
 -- a datagram that the pacer holds back isn't held back by the end
 not_silent : (silent owes blocked : Bool) (held : Option Quiet) → quiet_by silent owes blocked held ≡ Some Pacing → silent ≡ false
@@ -269,18 +285,20 @@ module _ {t : Types} (m : Meaning t) (R : At t → At t → Type 0) (here : (a :
       let b : At t = move_to (Seal time form (next_number a.state.numbers (number_space form)) (packet_size a.state form fs) fs) (move_to (Take (number_space form) fs) a) in
       next a b _ (seal time form fs a may) (flown m R here next move spend time (packet_size a.state form fs) (is_flown a.state fs) b)
 
-  packet_told : (time : ℕ) (p : Sent) (g : Going t) → MayFollow m time g.now.state g.batch p → R g.now (packet_after m time p g).now
+  pub packet_told : (time : ℕ) (p : Sent) (g : Going t) → MayFollow m time g.now.state g.batch p → R g.now (packet_after m time p g).now
   unfolding packet_after MayMove
   packet_told time p g may =
       let b : At t = begun_after (number_space p.form) p.opens g.now in
       next g.now b _ (holds_begun R here next (number_space p.form) p.opens g.now (λ x. move (Begin (number_space p.form) p.opens) tt x tt) (λ x skips. move Skip tt x skips))
       (sealed time p.form p.frames b (sealable m time p g.now g.batch may))
 
-  pub packets_told : (time : ℕ) (ps : List Sent) (g : Going t) → MayAll m time g ps → R g.now (packets_after m time ps g).now
-  packets_told time [] g may = here g.now
-  packets_told time (p ∷ ps) g may =
-      let h : Going t = packet_after m time p g in
-      next g.now h.now _ (packet_told time p g may.0) (packets_told time ps h may.1)
+  -- and each behind an update that is tried for it
+  pub packets_told : ((f : Form) (a : At t) → R a (tried_after m f a)) → (time : ℕ) (ps : List Sent) (g : Going t) → MayAll m time g ps → R g.now (packets_after m time ps g).now
+  packets_told tried time [] g may = here g.now
+  packets_told tried time (p ∷ ps) g may =
+      let f : Going t = going_tried m p.form g in
+      let h : Going t = packet_after m time p f in
+      next g.now f.now _ (tried p.form g.now) (next f.now h.now _ (packet_told time p f may.0) (packets_told tried time ps h may.1))
 
 -- so it does where it holds of each spending, whatever is left
 module _ {t : Types} (R : At t → At t → Type 0) (here : (a : At t) → R a a) (next : (a b c : At t) → R a b → R b c → R a c)
@@ -288,7 +306,17 @@ module _ {t : Types} (R : At t → At t → Type 0) (here : (a : At t) → R a a
     (seal : (time : ℕ) (form : Form) (fs : List FrameValue) (a : At t) → IsSealable time a.state form fs → R a (move_to (Seal time form (next_number a.state.numbers (number_space form)) (packet_size a.state form fs) fs) (move_to (Take (number_space form) fs) a))) where
   pub holds_packets : (m : Meaning t) (time : ℕ) (ps : List Sent) (g : Going t) → MayAll m time g ps → R g.now (packets_after m time ps g).now
   unfolding spent_after MayMove
-  holds_packets m time ps g may = packets_told m R here next (λ x p a h. move x (unspent_packet x p) a h) (λ at size a. move (Spend _) tt a tt) seal time ps g may
+  holds_packets m time ps g may =
+      packets_told m R here next (λ x p a h. move x (beginning_packet x (unspent_beginning x p)) a h) (λ at size a. move (Spend _) tt a tt) seal
+      (λ f a. holds_tried m R here (λ b h. move (Update _ _) tt b h) f a) time ps g may
+
+-- and, where nothing need hold of an update, of one packet
+module _ {t : Types} (R : At t → At t → Type 0) (here : (a : At t) → R a a) (next : (a b c : At t) → R a b → R b c → R a c)
+    (move : (x : Move t) → IsBeginning x → (a : At t) → MayMove x a.state → R a (move_to x a))
+    (seal : (time : ℕ) (form : Form) (fs : List FrameValue) (a : At t) → IsSealable time a.state form fs → R a (move_to (Seal time form (next_number a.state.numbers (number_space form)) (packet_size a.state form fs) fs) (move_to (Take (number_space form) fs) a))) where
+  pub holds_packet : (m : Meaning t) (time : ℕ) (p : Sent) (g : Going t) → MayFollow m time g.now.state g.batch p → R g.now (packet_after m time p g).now
+  unfolding spent_after MayMove
+  holds_packet m time p g may = packet_told m R here next (λ x p a h. move x (unspent_beginning x p) a h) (λ at size a. move (Spend _) tt a tt) seal time p g may
 
 -- what holds of no move, of two moves one after the other, and of each other move that a transmit makes, where it may be made, holds of an
 -- end and of what spares a key
@@ -374,9 +402,13 @@ module _ {t : Types} where
   probe_alive m time b a quiet size may = established_alive a.state.life.state (due_established time size a.state may.due)
 
   -- where a packet was to begin that can't, the connection hasn't ended yet
-  dies_alive : (m : Meaning t) (time : ℕ) (why : ConnectionError) (b : Batch) (a : At t) → MayEnd m time (Died why) a.state b → is_drained a.state.life.state ≡ false
-  dies_alive m time why b a (inl dies) = dies.turn.alive
-  dies_alive m time why b a (inr dies) = probe_alive m time b a dies.quiet dies.size dies.may
+  dies_by : (m : Meaning t) (time : ℕ) (f : Form) (why : ConnectionError) (b : Batch) (a : At t) → Dies m time a.state b f why ⊎ DiesProbing m time a.state b f why → is_drained a.state.life.state ≡ false
+  dies_by m time f why b a (inl dies) = dies.turn.alive
+  dies_by m time f why b a (inr dies) = probe_alive m time b a dies.quiet dies.size dies.may
+
+  dies_alive : (m : Meaning t) (time : ℕ) (f : Form) (why : ConnectionError) (b : Batch) (a : At t) → MayEnd m time (Died f why) a.state b → is_drained (tried_after m f a).state.life.state ≡ false
+  dies_alive m time f why b a may =
+      dies_by m time f why b (tried_after m f a) (subst (λ (s : View t). Dies m time s b f why ⊎ DiesProbing m time s b f why) (sym (tried_same m f a)) may)
 
 -- what holds of each move, of what the pacer spends, and of the two moves with which its packet is taken and sealed, holds of a probe of the path's
 -- size
@@ -419,6 +451,7 @@ IsUnprobed e = Unit {0}
 -- and where it holds of what the controller is told, of how a transmit ends, but with a probe
 module _ {t : Types} (m : Meaning t) (R : At t → At t → Type 0) (here : (a : At t) → R a a) (next : (a b c : At t) → R a b → R b c → R a c)
     (move : (x : Move t) → IsUntold x → (a : At t) → MayMove x a.state → R a (move_to x a))
+    (tried : (f : Form) (a : At t) → R a (tried_after m f a))
     (tell : (time : ℕ) (b : Batch) (a : At t) → R a (told_sent m time b a)) where
   pub unprobed_told : (time : ℕ) (e : Ending) (b : Batch) (a : At t) → IsUnprobed e → MayEnd m time e a.state b → R a (ending_after m time e b a)
   unfolding ending_after finished_after MayMove
@@ -435,27 +468,36 @@ module _ {t : Types} (m : Meaning t) (R : At t → At t → Type 0) (here : (a :
       let c : At t = held_after m time quiet b a in
       next a c _ (held R here next move m time quiet b a may.1) (move (Say quiet) tt c tt)
   unprobed_told time (Probed quiet size) b a plain may = absurd plain
-  unprobed_told time (Died why) b a plain may = let c : At t = killed_after why a in next a c _ (killed R here next move why a (dies_alive m time why b a may)) (move (Say Killed) tt c tt)
+  unprobed_told time (Died f why) b a plain may =
+      let d : At t = tried_after m f a in
+      let c : At t = killed_after why d in
+      next a d _ (tried f a)
+      (next d c _ (killed R here next move why d (dies_alive m time f why b a may)) (move (Say Killed) tt c tt))
 
 -- and with one
 module _ {t : Types} (m : Meaning t) (R : At t → At t → Type 0) (here : (a : At t) → R a a) (next : (a b c : At t) → R a b → R b c → R a c)
     (move : (x : Move t) → IsUntold x → (a : At t) → MayMove x a.state → R a (move_to x a))
+    (tried : (f : Form) (a : At t) → R a (tried_after m f a))
     (spend : (time size : ℕ) (a : At t) → R a (spent_after m time size a))
     (tell : (time : ℕ) (b : Batch) (a : At t) → R a (told_sent m time b a))
     (seal : (time : ℕ) (fs : List FrameValue) (a : At t) → IsSealable time a.state form.OneRtt fs → R a (move_to (Seal time form.OneRtt (next_number a.state.numbers «Data») (packet_size a.state form.OneRtt fs) fs) (move_to (Take «Data» fs) a))) where
   pub ending_told : (time : ℕ) (e : Ending) (b : Batch) (a : At t) → MayEnd m time e a.state b → R a (ending_after m time e b a)
   unfolding ending_after
-  ending_told time (Probed quiet size) b a may = probe_told m R here next move spend seal time size quiet b a may.0 may.1
-  ending_told time Went b a may = unprobed_told m R here next move tell time Went b a tt may
-  ending_told time Held b a may = unprobed_told m R here next move tell time Held b a tt may
-  ending_told time (Hushed quiet) b a may = unprobed_told m R here next move tell time (Hushed quiet) b a tt may
-  ending_told time (Died why) b a may = unprobed_told m R here next move tell time (Died why) b a tt may
+  ending_told time (Probed quiet size) b a may =
+      let c : At t = tried_after m form.OneRtt a in
+      next a c _ (tried form.OneRtt a)
+      (probe_told m R here next move spend seal time size quiet b c (subst (λ (s : View t). MayProbe m time s b quiet size) (sym (tried_same m form.OneRtt a)) may.0)
+      (subst (λ (s : View t). kill_in b s form.OneRtt ≡ None) (sym (tried_same m form.OneRtt a)) may.1))
+  ending_told time Went b a may = unprobed_told m R here next move tried tell time Went b a tt may
+  ending_told time Held b a may = unprobed_told m R here next move tried tell time Held b a tt may
+  ending_told time (Hushed quiet) b a may = unprobed_told m R here next move tried tell time (Hushed quiet) b a tt may
+  ending_told time (Died f why) b a may = unprobed_told m R here next move tried tell time (Died f why) b a tt may
 
 module _ {t : Types} (R : At t → At t → Type 0) (here : (a : At t) → R a a) (next : (a b c : At t) → R a b → R b c → R a c)
     (move : (x : Move t) → IsSending x → (a : At t) → MayMove x a.state → R a (move_to x a)) where
   pub holds_unprobed : (m : Meaning t) (time : ℕ) (e : Ending) (b : Batch) (a : At t) → IsUnprobed e → MayEnd m time e a.state b → R a (ending_after m time e b a)
   unfolding told_sent MayMove
-  holds_unprobed m time e b a plain may = unprobed_told m R here next (λ x s c h. move x (untold_sending x s) c h) (λ at batch c. move (Finish batch.total _) tt c tt) time e b a plain may
+  holds_unprobed m time e b a plain may = unprobed_told m R here next (λ x s c h. move x (untold_sending x s) c h) (λ f c. holds_tried m R here (λ x h. move (Update _ _) tt x h) f c) (λ at batch c. move (Finish batch.total _) tt c tt) time e b a plain may
 
 module _ {t : Types} (R : At t → At t → Type 0) (here : (a : At t) → R a a) (next : (a b c : At t) → R a b → R b c → R a c)
     (move : (x : Move t) → IsSending x → (a : At t) → MayMove x a.state → R a (move_to x a))
@@ -463,11 +505,12 @@ module _ {t : Types} (R : At t → At t → Type 0) (here : (a : At t) → R a a
   pub holds_ending : (m : Meaning t) (time : ℕ) (e : Ending) (b : Batch) (a : At t) → MayEnd m time e a.state b → R a (ending_after m time e b a)
   unfolding told_sent spent_after MayMove
   holds_ending m time e b a may =
-      ending_told m R here next (λ x s c h. move x (untold_sending x s) c h) (λ at size c. move (Spend _) tt c tt) (λ at batch c. move (Finish batch.total _) tt c tt) seal time e b a may
+      ending_told m R here next (λ x s c h. move x (untold_sending x s) c h) (λ f c. holds_tried m R here (λ x h. move (Update _ _) tt x h) f c) (λ at size c. move (Spend _) tt c tt) (λ at batch c. move (Finish batch.total _) tt c tt) seal time e b a may
 
 -- and of a transmit
 module _ {t : Types} (m : Meaning t) (R : At t → At t → Type 0) (here : (a : At t) → R a a) (next : (a b c : At t) → R a b → R b c → R a c)
     (move : (x : Move t) → IsUntold x → (a : At t) → MayMove x a.state → R a (move_to x a))
+    (tried : (f : Form) (a : At t) → R a (tried_after m f a))
     (spend : (time size : ℕ) (a : At t) → R a (spent_after m time size a))
     (tell : (time : ℕ) (b : Batch) (a : At t) → R a (told_sent m time b a))
     (seal : (time : ℕ) (form : Form) (fs : List FrameValue) (a : At t) → IsSealable time a.state form fs → R a (move_to (Seal time form (next_number a.state.numbers (number_space form)) (packet_size a.state form fs) fs) (move_to (Take (number_space form) fs) a))) where
@@ -475,7 +518,7 @@ module _ {t : Types} (m : Meaning t) (R : At t → At t → Type 0) (here : (a :
   unfolding MayTransmit transmit_after gone_after
   transmit_told time asked choice a may =
       let g : Going t = packets_after m time choice.packets (going_from asked a) in
-      next a g.now _ (packets_told m R here next (λ x p b h. move x (unspent_untold x p) b h) spend seal time choice.packets (going_from asked a) may.0) (ending_told m R here next move spend tell (λ at fs b h. seal at form.OneRtt fs b h) time choice.ending g.batch g.now may.1)
+      next a g.now _ (packets_told m R here next (λ x p b h. move x (unspent_untold x p) b h) spend seal tried time choice.packets (going_from asked a) may.0) (ending_told m R here next move tried spend tell (λ at fs b h. seal at form.OneRtt fs b h) time choice.ending g.batch g.now may.1)
 
 module _ {t : Types} (R : At t → At t → Type 0) (here : (a : At t) → R a a) (next : (a b c : At t) → R a b → R b c → R a c)
     (move : (x : Move t) → IsSending x → (a : At t) → MayMove x a.state → R a (move_to x a))
@@ -483,4 +526,4 @@ module _ {t : Types} (R : At t → At t → Type 0) (here : (a : At t) → R a a
   pub holds_transmit : (m : Meaning t) (time asked : ℕ) (choice : Choice) (a : At t) → MayTransmit m time asked choice a → R a (transmit_after m time asked choice a)
   unfolding spent_after told_sent MayMove
   holds_transmit m time asked choice a may =
-      transmit_told m R here next (λ x s b h. move x (untold_sending x s) b h) (λ at size b. move (Spend _) tt b tt) (λ at batch b. move (Finish batch.total _) tt b tt) seal time asked choice a may
+      transmit_told m R here next (λ x s b h. move x (untold_sending x s) b h) (λ f b. holds_tried m R here (λ c h. move (Update _ _) tt c h) f b) (λ at size b. move (Spend _) tt b tt) (λ at batch b. move (Finish batch.total _) tt b tt) seal time asked choice a may

@@ -1,5 +1,5 @@
 -- The keys of a connection (RFC 9001, sections 4, 6 and 6.6).
-use Rattle.std.specs.Prelude.{ℕ, ◌+◌, nat_le, nat_lt, Bool, false, Option, Some, None, is_some, if◌then◌else◌}
+use Rattle.std.specs.Prelude.{ℕ, ◌+◌, ◌-◌, ◌==◌, nat_le, nat_lt, Bool, false, Option, Some, None, is_some, if◌then◌else◌}
 use Rattle.std.specs.Option.{option_map}
 use Rattle.qc_base.specs.declared.side.SpaceId.{SpaceId}
 use Rattle.qc_base.specs.declared.side.SpaceId.TheVariants.{Initial, Handshake, «Data»}
@@ -7,8 +7,8 @@ use Rattle.qc_crypto.specs.declared.keys.KeyPair.{KeyPair}
 use Rattle.qc_crypto.specs.declared.keys.Keys.{Keys}
 use Rattle.qc_base.specs.Time.{plus}
 use Rattle.qc_packet.specs.OpenedPacket.{is_floor_missing}
-use Rattle.qc_rings.specs.Keyed.{Keyed, first_keyed, keyed_acked, keyed_discarded, keyed_opened, keyed_sealed}
-use Rattle.qc_rings.specs.Ring.{phase_of}
+use Rattle.qc_rings.specs.Keyed.{Keyed, first_keyed, keyed_acked, keyed_discarded, keyed_opened, keyed_sealed, keyed_updated}
+use Rattle.qc_rings.specs.Ring.{may_update, phase_of}
 use Rattle.qc_rings.specs.declared.which.Which.{Which}
 use Rattle.qc_rings.specs.declared.which.Which.TheVariants.{Current, Next, Previous}
 use Rattle.qc_state.specs.declared.form.Form.{Form}
@@ -201,6 +201,19 @@ module _ {H P : Type 0} where
   key_acked v Handshake n = v
   key_acked v «Data» n = record v { «data» = ring_acked n v.«data» }
 
+  -- a new epoch may begin: no keys of the one before are kept, and a packet of this one was acknowledged (RFC 9001, sections 6.1 and 6.5)
+  abbrev pub ring_may_update : Option (OneRttKeys H P) → Bool
+  ring_may_update None = false
+  ring_may_update (Some k) = may_update k.ring.ring
+
+  -- this end begins a new epoch (RFC 9001, section 6.1)
+  unfoldable pub ring_updated : Option (Fresh P) → Option (OneRttKeys H P) → Option (OneRttKeys H P)
+  ring_updated (Some fresh) (Some k) = Some (with_ring k (Some fresh) (keyed_updated k.ring fresh.keys))
+  ring_updated _ keys = keys
+
+  unfoldable pub key_updated : KeyGroup H P → Option (Fresh P) → KeyGroup H P
+  key_updated v fresh = record v { «data» = ring_updated fresh v.«data» }
+
   -- the keys of the epoch before are dropped, where they have a floor (RFC 9001, section 6.5)
   unfoldable pub ring_discarded : Option (OneRttKeys H P) → Option (OneRttKeys H P)
   ring_discarded None = None
@@ -208,6 +221,16 @@ module _ {H P : Type 0} where
 
   unfoldable pub key_discarded : KeyGroup H P → KeyGroup H P
   key_discarded v = record v { «data» = ring_discarded v.«data» }
+
+  -- how many packets 1-RTT keys seal before this end tries to update them: the first ones so many as are given, others 10,000 fewer than they
+  -- may (RFC 9001, section 6.6)
+  abbrev pub phase_size : (first : ℕ) → OneRttKeys H P → ℕ
+  phase_size first k = if k.ring.ring.epoch == 0 then first else k.confidentiality_limit - 10000
+
+  -- 1-RTT keys have sealed as many
+  abbrev pub is_phase_full : (first : ℕ) → Option (OneRttKeys H P) → Bool
+  is_phase_full first None = false
+  is_phase_full first (Some k) = nat_le (phase_size first k) k.ring.count
 
   -- how many packets a sealing key has sealed, and how many it may (RFC 9001, section 6.6)
   abbrev pub plain_usage : SpaceKeys H P → KeyUse

@@ -1,5 +1,6 @@
 pub mod Acks
 pub mod Allowed
+pub mod Batches
 pub mod Datagrams
 pub mod Draws
 pub mod Expansion

@@ -48,10 +48,10 @@ use Rattle.qc_recovery.specs.Steps.{After, FiredAfter, path_dropped}
 use Rattle.qc_recovery.specs.declared.path.PathData.{PathData}
 use Rattle.qc_state.specs.Acks.{is_ack}
 use Rattle.qc_state.specs.Draws.{word}
-use Rattle.qc_state.specs.Life.{rank_of, is_open, is_over, is_closed, is_drained, reason_given, life_raised, life_closed, life_drained, life_established, data_ready, token_learned, identifiers_wanted, retirement_told, token_told, ready_reported, connected_reported, datagram_heard, more_heard, heard_reported, all_heard_reported, lost_reported, notice_reported, notices_reported, drained_reported}
+use Rattle.qc_state.specs.Life.{rank_of, is_open, is_over, is_closed, is_drained, reason_given, life_raised, life_closed, life_drained, life_established, data_ready, token_learned, identifiers_wanted, retirement_told, token_told, ready_reported, connected_reported, datagram_heard, more_heard, heard_reported, all_heard_reported, lost_reported, notice_reported, notices_reported, drained_reported, is_established}
 use Rattle.qc_state.specs.Numbers.{next_number, received_number, number_used, number_skipped, is_skipped, is_new_in, came_in, number_entered, number_accepted, number_acked}
 use Rattle.qc_state.specs.Forms.{is_early, number_space}
-use Rattle.qc_state.specs.Keys.{NewKeys, NoKeys, HandshakeKeys, DataKeys, epoch_in, has_keys_for, key_acked, key_discarded, key_opened, key_used, failure_counted, keys_given, keys_dropped, ring_of, sets_floor}
+use Rattle.qc_state.specs.Keys.{NewKeys, NoKeys, HandshakeKeys, DataKeys, epoch_in, has_keys_for, key_acked, key_discarded, key_opened, key_used, failure_counted, keys_given, keys_dropped, ring_of, sets_floor, key_updated, ring_may_update}
 use Rattle.qc_state.specs.Flight.{flown_packet}
 use Rattle.qc_state.specs.Ids.{active_limit, fired_ids, lost_ids}
 use Rattle.qc_state.specs.Lower.{bytes_came, frames_sealed, ids_stepped, session_asked, session_read, session_wrote, flight_dropped, packet_flown, packets_settled, timer_fired, streams_stepped, datagrams_stepped, frame_handed, limits_learned, streams_closed, event_told, events_told}
@@ -166,6 +166,7 @@ pub data Move (t : Types) : Type 0 where
   Enter : (id : SpaceId) → (number : ℕ) → (verdict : Verdict) → Move t  -- a packet came whose number counts, and whose frames don't
   Fail : Move t  -- a packet didn't open
   Unseal : (time number : ℕ) → (which : Which) → (fresh : Option (Fresh t.P)) → (session : t.S) → Move t  -- a 1-RTT packet of this number was opened by these keys of the ring; as the next ones begin a new epoch, the session gave what that takes with it
+  Update : (fresh : Option (Fresh t.P)) → (session : t.S) → Move t  -- this end begins a new epoch of its 1-RTT keys, for which the session gave what that takes with it
   Discard : Move t  -- the 1-RTT keys of the epoch before were kept for as long as they are to be
   Accept : (time : ℕ) → (id : SpaceId) → (number : ℕ) → (eliciting : Bool) → (signs : Signs) → (verdict : Verdict) → Move t  -- a packet was accepted
   Fix : (cid : List ℕ) → Move t  -- the peer has chosen its id
@@ -232,6 +233,7 @@ module _ {t : Types} where
   keys_move Fail s = failure_counted s.keys
   keys_move (Unseal time n which fresh session) s = key_opened s.keys which n fresh
   keys_move (Ack id n r) s = key_acked s.keys id n
+  keys_move (Update fresh session) s = key_updated s.keys fresh
   keys_move Discard s = key_discarded s.keys
   keys_move (Write bytes keys session) s = keys_given s.keys keys
   keys_move _ s = s.keys
@@ -345,6 +347,7 @@ module _ {t : Types} where
   lower_move (Read id count session) s = session_read s.lower id count session
   lower_move (Write bytes keys session) s = session_wrote s.lower session
   lower_move (Unseal time n which fresh session) s = session_asked s.lower session
+  lower_move (Update fresh session) s = session_asked s.lower session
   lower_move (Learn parameters) s = limits_learned parameters s.lower
   lower_move (Hand frame) s = frame_handed frame s.lower
   lower_move (Call x) s = streams_stepped (x ∷ []) s.lower
@@ -404,6 +407,7 @@ module _ {t : Types} where
   MayMove (Arm due) s = IsArmed due s
   MayMove (Write bytes keys session) s = AreNext keys s.keys.highest
   MayMove (Unseal time n which fresh session) s = is_over s.life.state ≡ false
+  MayMove (Update fresh session) s = (is_established s.life.state ≡ true) × (ring_may_update s.keys.«data» ≡ true)
   MayMove Establish s = rank_of s.life.state < 1
   MayMove (Tell d) s = IsTold d
   MayMove (Post x) s = is_post x ≡ true

@@ -2,11 +2,11 @@
 use Rattle.std.specs.Prelude.{◌≡◌, ℕ, ◌+◌, ◌≤◌, true, List, [], ◌∷◌, ◌++◌, length, take, if◌then◌else◌, Option, Some, None}
 use Rattle.qc_state.specs.declared.life.Close.TheVariants.{Application}
 use Rattle.qc_state.specs.declared.input.Input.{Input}
-use Rattle.qc_state.specs.declared.input.Input.TheVariants.{Datagram, Timeout, Transmit, Open, Accept, Write, Finish, ResetSend, StopRecv, Read, SendDatagram, RecvDatagram, MaxStreams, SendWindow, ReceiveWindow, Identifiers, Close, Ping}
+use Rattle.qc_state.specs.declared.input.Input.TheVariants.{Datagram, Timeout, Transmit, Open, Accept, Write, Finish, ResetSend, StopRecv, Read, SendDatagram, RecvDatagram, MaxStreams, SendWindow, ReceiveWindow, Identifiers, Close, Ping, Update}
 use Rattle.qc_state.specs.declared.input.Word.{Word}
 use Rattle.qc_state.specs.declared.input.Word.TheVariants as word
 use Rattle.qc_state.specs.declared.trace.Answer.{Answer}
-use Rattle.qc_state.specs.declared.trace.Answer.TheVariants.{Done, Dropped, Nothing, Out}
+use Rattle.qc_state.specs.declared.trace.Answer.TheVariants.{Done, Dropped, Flag, Nothing, Out}
 use Rattle.qc_state.specs.declared.trace.Step.{Step}
 use Rattle.qc_state.specs.declared.transmit.Transmit as transmit
 use Rattle.qc_state.specs.Life.{is_open}
@@ -22,6 +22,7 @@ use Rattle.qc_state.specs.Streams.{MayRead, call_answer, calls_of}
 use Rattle.qc_state.specs.Timeouts.{timeout_after}
 use Rattle.qc_state.specs.Timers.{next_timeout}
 use Rattle.qc_state.specs.Types.{Types, Meaning}
+use Rattle.qc_state.specs.Updating.{may_update_now, updated_after}
 use Rattle.qc_state.specs.View.{View, At, at}
 use Rattle.qc_streams.specs.Waits as streams
 
@@ -32,6 +33,7 @@ time_of (Timeout time) = time
 time_of (Transmit time max) = time
 time_of (Close time code reason) = time
 time_of (Ping time) = time
+time_of (Update time) = time
 time_of (Open time dir) = time
 time_of (Accept time dir) = time
 time_of (Write time id body) = time
@@ -53,6 +55,7 @@ word_of (Timeout time) = word.Timeout
 word_of (Transmit time max) = word.Transmit
 word_of (Close time code reason) = word.Close
 word_of (Ping time) = word.Ping
+word_of (Update time) = word.Update
 word_of (Open time dir) = word.Open
 word_of (Accept time dir) = word.Accept
 word_of (Write time id body) = word.Write
@@ -98,6 +101,7 @@ module _ {t : Types} where
   input_after m (Transmit time max) choice a = transmit_after m time max choice a
   input_after m (Close time code reason) choice a = close_after time code reason a
   input_after m (Ping time) choice a = move_to (Ask a.state.keys.highest) a
+  input_after m (Update time) choice a = updated_after m a
   input_after m (SendDatagram time body) choice a = move_to (Post (datagrams.Sent (datagram_limit a.state) true body)) a
   input_after m (RecvDatagram time) choice a = move_to (Post datagrams.Taken) a
   input_after m (Identifiers time ids) choice a = move_to (Issue time ids) a
@@ -126,6 +130,7 @@ module _ {t : Types} where
   answer_of m (Transmit time max) choice a = out_of (transmit_of m time max choice a) (transmit_bytes m time max choice a)
   answer_of m (SendDatagram time body) choice a = sent_answer (send_refusal (datagram_limit a.state) true body a.state.lower.datagrams)
   answer_of m (RecvDatagram time) choice a = taken_answer a.state.lower.datagrams.incoming
+  answer_of m (Update time) choice a = Flag (may_update_now a.state)
   answer_of m i choice a = call_answer i choice.read a.state.lower.streams
 
   -- one step: how each group of the view changes, and what is told. A transmit and a read have their choice, one for all that is said

@@ -1,6 +1,6 @@
 -- What a transmit may send, and what it leaves: a list of packets, each a step of what is carried along, and an ending. Which packets
 -- there are, in which datagrams, and which of the waiting frames each carries, is free; all else is a function of that choice.
-use Rattle.std.specs.Prelude.{min, is_some, option_map, ◌≡◌, ℕ, ◌+◌, ◌-◌, ◌<◌, ◌≤◌, ◌^◌, ◌==◌, ◌⊎◌, Bool, true, false, ◌||◌, ◌&&◌, not, nat_lt, nat_le, if◌then◌else◌, List, [], ◌∷◌, ◌++◌, length, replicate, Option, Some, None, Result}
+use Rattle.std.specs.Prelude.{is_some, option_map, ◌≡◌, ℕ, ◌+◌, ◌-◌, ◌<◌, ◌≤◌, ◌^◌, ◌==◌, ◌⊎◌, Bool, true, false, ◌||◌, ◌&&◌, not, nat_lt, nat_le, if◌then◌else◌, List, [], ◌∷◌, ◌++◌, length, replicate, Option, Some, None, Result}
 use Rattle.std.specs.List.{list_any}
 use Rattle.qc_base.specs.declared.ecn.EcnCodepoint.TheVariants.{Ect0}
 use Rattle.qc_base.specs.declared.side.LongType.TheVariants as long
@@ -42,11 +42,12 @@ use Rattle.qc_state.specs.declared.life.Life.{Life}
 use Rattle.qc_state.specs.declared.transmit.Batch.{Batch}
 use Rattle.qc_state.specs.declared.transmit.Transmit.{Transmit}
 use Rattle.qc_state.specs.declared.transmit.TheConstants.{SPARE_ROOM}
-use Rattle.qc_state.specs.Forms.{is_one_rtt, number_space}
+use Rattle.qc_state.specs.Forms.{number_space}
 use Rattle.qc_state.specs.Keys.{form_in, has_keys, has_keys_for, header_key, packet_key, phase_now, reaches_limit, usage_of}
 use Rattle.qc_state.specs.Life.{is_established, is_open, is_closed, is_drained}
 use Rattle.qc_state.specs.Acks.{AckPart, IsLongAck, is_ack, is_ack_owed, may_acknowledge}
 use Rattle.qc_state.specs.Allowed.{WaitAll}
+use Rattle.qc_state.specs.Batches.{batch_begun, next_segment, is_last_in, is_in_order, takes_another, is_done, wanted_by, is_closed_up, IsBehind, segment_of, batch_opened, widens, batch_grown}
 use Rattle.qc_state.specs.Draws.{bit}
 use Rattle.qc_state.specs.Flight.{counts_in_flight}
 use Rattle.qc_state.specs.Moves.{Begin, Skip, Seal, Take, Forget, Finish, Hold, Say, Spend, move_to, armed_with, state_move, Ask, Probe}
@@ -56,6 +57,7 @@ use Rattle.qc_state.specs.Paths.{is_blocked_behind, held_size, least_on}
 use Rattle.qc_state.specs.Spaces.{is_space, space_of}
 use Rattle.qc_state.specs.Setup.{behind_spin, takes_grease}
 use Rattle.qc_state.specs.Stopping.{key_limit_error, killed_after, stopped_after, violation_at}
+use Rattle.qc_state.specs.Updating.{tried_after, tried_view}
 use Rattle.qc_state.specs.Types.{Types, Meaning}
 use Rattle.qc_state.specs.View.{View, At, at}
 
@@ -109,13 +111,13 @@ pub record Sent : Type 0 where
   pub frames : List FrameValue
 
 -- how a transmit ends: what it sealed goes, and perhaps the pacer holds a further datagram back; or it seals nothing, for this cause, but
--- perhaps a probe of the path's size, of so many bytes; or the connection ends, for this reason
+-- perhaps a probe of the path's size, of so many bytes; or the connection ends as a packet of this form was to begin, for this reason
 pub data Ending : Type 0 where
   Went : Ending
   Held : Ending
   Hushed : (quiet : Quiet) → Ending
   Probed : (quiet : Quiet) → (size : ℕ) → Ending
-  Died : (why : ConnectionError) → Ending
+  Died : (form : Form) → (why : ConnectionError) → Ending
 
 -- what is free of an input: of a transmit the packets that it seals, one behind the other, and how it ends; of a read what it answers
 pub record Choice : Type 0 where
@@ -154,123 +156,7 @@ sent_out Went sent = Some sent
 sent_out Held sent = Some sent
 sent_out (Hushed quiet) sent = None
 sent_out (Probed quiet size) sent = Some (record sent { size = size; segment_size = None })
-sent_out (Died why) sent = None
-
--- what is known of a transmit of at most so many datagrams that begins, with a close owed or without one, on a path whose datagrams have
--- at most `segment` bytes, and are filled up to `least` that are to be; `pads` says that those with a packet of the Data space are padded up to
--- the size of the others
-abbrev pub batch_begun : (closing pads : Bool) → (most segment least : ℕ) → Batch
-batch_begun closing pads most segment least = record {
-  closing = closing;
-  pads = pads;
-  most = most;
-  made = 0;
-  segment = segment;
-  least = least;
-  capacity = 0;
-  filled = 0;
-  padding = 0;
-  short = false;
-  fills = false;
-  wide = false;
-  total = 0;
-  space = None;
-  last = 0;
-  worn = false;
-  shook = false;
-}
-
--- how many bytes the next datagram may have: what the path takes, and behind the first one what that one has
-abbrev pub next_segment : Batch → ℕ
-next_segment b = if b.made == 1 then b.filled else b.segment
-
--- whether the last packet is one of this space
-abbrev pub is_last_in : Option SpaceId → SpaceId → Bool
-is_last_in None id = false
-is_last_in (Some last) id = is_space last id
-
--- whether a packet of this space may stand behind the last one: spaces go in their order
-abbrev pub is_in_order : Option SpaceId → SpaceId → Bool
-is_in_order None id = true
-is_in_order (Some Initial) id = true
-is_in_order (Some Handshake) Initial = false
-is_in_order (Some Handshake) Handshake = true
-is_in_order (Some Handshake) Data = true
-is_in_order (Some «Data») Initial = false
-is_in_order (Some «Data») Handshake = false
-is_in_order (Some «Data») Data = true
-
--- whether a further packet joins the open datagram: there is one, whose last packet says where it ends, and 103 bytes are left
-abbrev pub takes_another : Batch → Bool
-takes_another b = nat_lt 0 b.made && (not b.short && nat_le 103 (b.capacity - b.filled))
-
--- no packet need join the open datagram: there is none, or its last packet is one that says not where it ends, or fewer than 128 bytes are
--- left beside its PADDING
-abbrev pub is_done : Batch → Bool
-is_done b = b.made == 0 || (b.short || nat_lt (b.capacity - (b.filled - b.padding)) 128)
-
--- another datagram may stand behind the open one: it has as many bytes as each but the last is to have
-abbrev pub is_whole : Batch → Bool
-is_whole b = b.made == 0 || b.filled == next_segment b
-
--- how many bytes the open datagram is to have at least: where it is to have the size of the others, and may, so many; else as many as one that
--- is filled up, where it is to be
-abbrev pub wanted_by : (wide fills : Bool) → Batch → ℕ
-wanted_by wide fills b = if wide && nat_le b.segment b.capacity then b.segment else if fills then b.least else 0
-
--- so it is by the packets in it
-abbrev pub wanted_size : Batch → ℕ
-wanted_size b = wanted_by b.wide b.fills b
-
--- the open datagram is filled up, where it is to be
-unfoldable pub is_closed_up : Batch → Bool
-is_closed_up b = nat_le (wanted_size b) b.filled
-
--- where a packet opens a datagram, the one before it has the size of the others, and is filled up where it is to be
-abbrev pub IsBehind : Batch → (opens : Bool) → Type 0
-IsBehind b true = (is_whole b && is_closed_up b) ≡ true
-IsBehind b false = Unit {0}
-
--- the size of each datagram but the last, where there are several
-abbrev pub segment_of : Batch → Option ℕ
-segment_of b = if nat_lt 1 b.made then Some b.segment else None
-
--- a packet is begun; a datagram begins with it, or it joins one. A datagram for a probe has at most the size that others are filled up
--- to.
-unfoldable pub batch_opened : (opens : Bool) → (probes : Bool) → Batch → Batch
-batch_opened opens probes b =
-    if opens then record b {
-      made = plus b.made 1;
-      segment = next_segment b;
-      capacity = if probes then min b.least (next_segment b) else next_segment b;
-      filled = 0;
-      padding = 0;
-      short = false;
-      fills = false;
-      wide = false;
-    }
-    else b
-
--- a packet of this form is one of those whose datagram is padded up to the size of the others
-abbrev pub widens : Batch → Form → Bool
-widens b form = b.pads && is_space (number_space form) «Data»
-
--- a packet of this form was sealed, with this number, so many bytes, and so many of PADDING among them, which fills up its datagram or
--- doesn't, and whose key could seal only two packets more before, or more
-unfoldable pub batch_grown : Form → (number size padding : ℕ) → (fills nearly : Bool) → Batch → Batch
-batch_grown form number size padding fills nearly b =
-    record b {
-      filled = plus b.filled size;
-      padding = plus b.padding padding;
-      short = b.short || is_one_rtt form;
-      fills = b.fills || fills;
-      wide = b.wide || widens b form;
-      total = plus b.total size;
-      space = Some (number_space form);
-      last = number;
-      worn = nearly;
-      shook = b.shook || is_space (number_space form) Handshake;
-    }
+sent_out (Died form why) sent = None
 
 -- how many of these frames are PADDING
 abbrev pub padding_in : List FrameValue → ℕ
@@ -580,20 +466,23 @@ module _ {t : Types} where
     pub cause : quiet_of m time s b ≡ Some quiet
     pub due : probe_size time s ≡ Some size
 
-  -- the connection ends for this reason: it is the turn of a space, there is a place for its packet, and that can't begin
-  pub record Dies (m : Meaning t) (time : ℕ) (s : View t) (b : Batch) (why : ConnectionError) : Type 0 where
+  -- the connection ends for this reason as a packet of this form was to begin: it is the turn of a space, there is a place for its packet, and that
+  -- can't begin
+  pub record Dies (m : Meaning t) (time : ℕ) (s : View t) (b : Batch) (form : Form) (why : ConnectionError) : Type 0 where
     pub space : SpaceId
     pub opens : Bool
     pub turn : HasTurn m s b space
     pub place : MayStand m time s b space opens
-    pub kill : kill_in b s (form_in s.keys space) ≡ Some why
+    pub now : form ≡ form_in s.keys space
+    pub kill : kill_in b s form ≡ Some why
 
   -- so it does where a probe of the path's size is due, and can't begin
-  pub record DiesProbing (m : Meaning t) (time : ℕ) (s : View t) (b : Batch) (why : ConnectionError) : Type 0 where
+  pub record DiesProbing (m : Meaning t) (time : ℕ) (s : View t) (b : Batch) (f : Form) (why : ConnectionError) : Type 0 where
     pub quiet : Quiet
     pub size : ℕ
     pub may : MayProbe m time s b quiet size
-    pub kill : kill_in b s form.OneRtt ≡ Some why
+    pub now : f ≡ form.OneRtt
+    pub kill : kill_in b s f ≡ Some why
 
   -- such an end drops the keys of its Initial space, if it has them still
   unfoldable pub drops_initial : Side → View t → SpaceId → Bool
@@ -630,10 +519,15 @@ module _ {t : Types} where
       (is_key_nearly_used_up g.now.state p.form) (begun_batch g.now.state (number_space p.form) p.opens g.batch))
       (g.out ++ packet_bytes m begun.state p.form p.frames)
 
+  -- A packet of this form is about to begin: an update of its keys is tried. What may be sent, and whether it can begin, is asked by the view
+  -- behind that (RFC 9001, section 6.6).
+  abbrev pub going_tried : Meaning t → Form → Going t → Going t
+  going_tried m form g = going (tried_after m form g.now) g.batch g.out
+
   -- packets, one behind the other
   abbrev pub packets_after : Meaning t → ℕ → List Sent → Going t → Going t
   packets_after m time [] g = g
-  packets_after m time (p ∷ ps) g = packets_after m time ps (packet_after m time p g)
+  packets_after m time (p ∷ ps) g = packets_after m time ps (packet_after m time p (going_tried m p.form g))
 
   -- A packet may follow at a time, by the view and the batch before it: it may be begun, and carries what it may, among it something that its
   -- space owed, unless it is the first of the transmit, and only an ACK was owed that has no room. It is full: where its frames leave 64 bytes of
@@ -659,7 +553,9 @@ module _ {t : Types} where
   -- each of these packets may follow those before it
   abbrev pub MayAll : Meaning t → ℕ → Going t → List Sent → Type 0
   MayAll m time g [] = Unit {0}
-  MayAll m time g (p ∷ ps) = MayFollow m time g.now.state g.batch p × MayAll m time (packet_after m time p g) ps
+  MayAll m time g (p ∷ ps) =
+      let tried : Going t = going_tried m p.form g in
+      MayFollow m time tried.now.state g.batch p × MayAll m time (packet_after m time p tried) ps
 
   -- what a space owes has no room in a packet that would join the open datagram: it is an ACK, or a datagram of the application
   pub record LacksRoom (time : ℕ) (b : Batch) (s : View t) (id : SpaceId) : Type 0 where
@@ -684,13 +580,13 @@ module _ {t : Types} where
     pub held : limit_in m time s b space ≡ Some Pacing
 
   -- how a transmit may end, by the view and the batch behind its packets: with datagrams; or without one, for the cause that there is, where no
-  -- probe of the path's size is due; or with that probe; or as a packet was to begin that can't
+  -- probe of the path's size is due; or with that probe; or as a packet was to begin that can't. Behind an update that was tried for it
   abbrev pub MayEnd : Meaning t → (time : ℕ) → Ending → View t → Batch → Type 0
   MayEnd m time Went s b = IsEnded time s b
   MayEnd m time Held s b = IsEnded time s b × IsHeld m time s b
   MayEnd m time (Hushed quiet) s b = (b.made ≡ 0) × (quiet_of m time s b ≡ Some quiet) × (probe_size time s ≡ None)
-  MayEnd m time (Probed quiet size) s b = MayProbe m time s b quiet size × (kill_in b s form.OneRtt ≡ None)
-  MayEnd m time (Died why) s b = Dies m time s b why ⊎ DiesProbing m time s b why
+  MayEnd m time (Probed quiet size) s b = MayProbe m time (tried_view m s form.OneRtt) b quiet size × (kill_in b (tried_view m s form.OneRtt) form.OneRtt ≡ None)
+  MayEnd m time (Died form why) s b = Dies m time (tried_view m s form) b form why ⊎ DiesProbing m time (tried_view m s form) b form why
 
   -- a client that sealed a Handshake packet leaves the Initial space
   abbrev pub handshake_left : ℕ → (shook : Bool) → At t → At t
@@ -733,22 +629,26 @@ module _ {t : Types} where
       let begun : At t = probe_begun_after m time quiet b a in
       spared_after time (is_key_nearly_used_up begun.state form.OneRtt) (probe_sealed m time size quiet begun)
 
+  -- the bytes of that probe
+  abbrev pub probe_bytes : Meaning t → (time size : ℕ) → Quiet → Batch → At t → List ℕ
+  probe_bytes m time size quiet b a =
+      let begun : At t = probe_begun_after m time quiet b a in packet_bytes m begun.state form.OneRtt (probe_frames begun.state size)
+
   -- the bytes of a transmit that ends so, behind its packets: those of its datagrams, or of the probe; none where the connection ends
   abbrev pub bytes_out : Meaning t → ℕ → Ending → Batch → At t → (bytes : List ℕ) → List ℕ
   bytes_out m time Went b a bytes = bytes
   bytes_out m time Held b a bytes = bytes
   bytes_out m time (Hushed quiet) b a bytes = []
-  bytes_out m time (Probed quiet size) b a bytes =
-      let begun : At t = probe_begun_after m time quiet b a in packet_bytes m begun.state form.OneRtt (probe_frames begun.state size)
-  bytes_out m time (Died why) b a bytes = []
+  bytes_out m time (Probed quiet size) b a bytes = probe_bytes m time size quiet b (tried_after m form.OneRtt a)
+  bytes_out m time (Died form why) b a bytes = []
 
   -- how a transmit ends: where the connection ends, nothing goes
   unfoldable pub ending_after : Meaning t → ℕ → Ending → Batch → At t → At t
   ending_after m time Went b a = finished_after m time b a
   ending_after m time Held b a = finished_after m time b (held_after m time Pacing b a)
   ending_after m time (Hushed quiet) b a = move_to (Say quiet) (held_after m time quiet b a)
-  ending_after m time (Probed quiet size) b a = probed_after m time size quiet b a
-  ending_after m time (Died why) b a = move_to (Say Killed) (killed_after why a)
+  ending_after m time (Probed quiet size) b a = probed_after m time size quiet b (tried_after m form.OneRtt a)
+  ending_after m time (Died form why) b a = move_to (Say Killed) (killed_after why (tried_after m form a))
 
   -- how many datagrams a transmit may have that is asked for so many: one, where its datagrams can't stand behind each other
   abbrev pub most_of : View t → (asked : ℕ) → ℕ
@@ -794,9 +694,10 @@ module _ {t : Types} where
   unfoldable pub transmit_of : Meaning t → (time asked : ℕ) → Choice → At t → Option Transmit
   transmit_of m time asked choice a = sent_out choice.ending (transmit_with a.state (gone_after m time asked choice a).batch)
 
-  -- a packet was sealed: what it leaves is what a packet does that may follow
-  pub record SendsOne (m : Meaning t) (time : ℕ) (g h : Going t) : Type 0 where
+  -- a packet of this form was sealed, for which an update was tried before: what it leaves is what a packet does that may follow
+  pub record SendsOne (m : Meaning t) (time : ℕ) (form : Form) (g h : Going t) : Type 0 where
     pub packet : Sent
+    pub same : packet.form ≡ form
     pub may : MayFollow m time g.now.state g.batch packet
     pub leads : h ≡ packet_after m time packet g
 

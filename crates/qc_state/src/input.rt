@@ -114,6 +114,11 @@ pub enum Input {
         /// The time.
         now: Instant,
     },
+    /// The application asks for an update of the 1-RTT keys (RFC 9001, 6.1).
+    Update {
+        /// The time.
+        now: Instant,
+    },
     /// The application sets how many streams the peer may have open at a time (RFC 9000, 4.6).
     MaxStreams {
         /// The time.
@@ -177,6 +182,8 @@ pub enum Word {
     Close,
     /// An `Input::Ping`.
     Ping,
+    /// An `Input::Update`.
+    Update,
     /// An `Input::MaxStreams`.
     MaxStreams,
     /// An `Input::SendWindow`.

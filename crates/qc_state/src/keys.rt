@@ -2,8 +2,8 @@
 
 ghost use Rattle.std.specs.Prelude.{◌≡◌, Some};
 ghost use Rattle.std.specs.Option.{option_copied, option_map};
-ghost use Rattle.qc_state.specs.Keys.{HandshakeKeys, DataKeys, count_one, ring_used, key_used, failure_counted, first_keys, has_keys, header_key, packet_key, unmasking_key, opening_key, ring_of, phase_with, phase_now, new_keys, new_ring, plain_usage, ring_usage, usage_of, plain_integrity, ring_integrity, reaches_limit, integrity_limit_of, exceeds_limit, fails_too_often, keys_given, keys_dropped, form_in, has_keys_for, epoch_with, epoch_in, epoch_keys, fresh_with, fresh_for, fresh_keys, with_ring, ring_opened, key_opened, sets_floor, ring_acked, key_acked, ring_discarded, key_discarded};
-ghost use Rattle.qc_rings.specs.Keyed.{keyed_opened};
+ghost use Rattle.qc_state.specs.Keys.{HandshakeKeys, DataKeys, count_one, ring_used, key_used, failure_counted, first_keys, has_keys, header_key, packet_key, unmasking_key, opening_key, ring_of, phase_with, phase_now, new_keys, new_ring, plain_usage, ring_usage, usage_of, plain_integrity, ring_integrity, reaches_limit, integrity_limit_of, exceeds_limit, fails_too_often, keys_given, keys_dropped, form_in, has_keys_for, epoch_with, epoch_in, epoch_keys, fresh_with, fresh_for, fresh_keys, with_ring, ring_opened, key_opened, sets_floor, ring_acked, key_acked, ring_may_update, ring_updated, key_updated, ring_discarded, key_discarded, phase_size, is_phase_full};
+ghost use Rattle.qc_rings.specs.Keyed.{keyed_opened, keyed_updated};
 
 use crate::form::Form;
 use qc_base::{Instant, SpaceId};
@@ -68,6 +68,9 @@ impl<H, P: PacketKey> OneRttKeys<H, P> {
     }
 }
 
+/// How many packets fewer than its key may seal an epoch has, before this end tries to begin the next one.
+const PHASE_MARGIN: u64 = 10_000;
+
 /// What a ring takes with it into a new epoch (RFC 9001, 6.1 and 6.6).
 #[derive(Drop)]
 pub struct Fresh<P> {
@@ -106,6 +109,25 @@ impl<H: Drop, P: Drop> OneRttKeys<H, P> {
                 self.integrity_limit = fresh.integrity_limit;
             }
         }
+    }
+
+    /// This end begins a new epoch, where it may, with what that takes with it.
+    fn update(&mut self, fresh: Fresh<P>)
+        ensures { self.new ≡ with_ring self.old (Some fresh) (keyed_updated self.old.ring fresh.keys) }
+    {
+        self.ring.update(fresh.keys);
+        self.confidentiality_limit = fresh.confidentiality_limit;
+        self.integrity_limit = fresh.integrity_limit;
+    }
+
+    /// How many packets these keys seal before this end tries to update them, where the first ones seal so many.
+    fn phase_size(&self, first: u64) -> u64
+        ensures { result ≡ phase_size first self.now }
+    {
+        if self.ring.epoch() == 0 {
+            return first;
+        }
+        self.confidentiality_limit.saturating_sub(PHASE_MARGIN)
     }
 }
 
@@ -200,6 +222,18 @@ fn acknowledge_in_ring<H, P: Drop>(keys: &mut Option<OneRttKeys<H, P>>, number: 
     }
 }
 
+/// This end begins a new epoch, where it has keys, and may.
+#[tactic(auto, unfolding(crate::specs::Keys::ring_updated))]
+fn update_ring<H: Drop, P: Drop>(keys: &mut Option<OneRttKeys<H, P>>, fresh: Option<Fresh<P>>)
+    ensures { keys.new ≡ ring_updated fresh keys.old }
+{
+    if let Some(keys) = keys {
+        if let Some(fresh) = fresh {
+            keys.update(fresh);
+        }
+    }
+}
+
 /// The keys of the epoch before are dropped, where they have a floor.
 #[tactic(auto, unfolding(crate::specs::Keys::ring_discarded))]
 fn discard_in_ring<H, P: Drop>(keys: &mut Option<OneRttKeys<H, P>>)
@@ -207,6 +241,26 @@ fn discard_in_ring<H, P: Drop>(keys: &mut Option<OneRttKeys<H, P>>)
 {
     if let Some(keys) = keys {
         keys.ring.discard();
+    }
+}
+
+/// Whether a new epoch may begin.
+fn ring_may_update<H, P: Drop>(keys: &Option<OneRttKeys<H, P>>) -> bool
+    ensures { result ≡ ring_may_update keys.now }
+{
+    match keys {
+        None => false,
+        Some(keys) => keys.ring.may_update(),
+    }
+}
+
+/// Whether 1-RTT keys have sealed as many packets as they are to seal, where the first ones are to seal so many.
+fn is_phase_full<H: Drop, P: Drop>(keys: &Option<OneRttKeys<H, P>>, first: u64) -> bool
+    ensures { result ≡ is_phase_full first keys.now }
+{
+    match keys {
+        None => false,
+        Some(keys) => keys.phase_size(first) <= keys.ring.count(),
     }
 }
 
@@ -290,7 +344,7 @@ fn phase_with<H, P: Drop>(keys: &Option<OneRttKeys<H, P>>) -> bool
     }
 }
 
-#[tactic(auto, unfolding(crate::specs::Keys::key_used, crate::specs::Keys::failure_counted, crate::specs::Keys::has_keys, crate::specs::Keys::header_key, crate::specs::Keys::packet_key, crate::specs::Keys::unmasking_key, crate::specs::Keys::opening_key, crate::specs::Keys::plain_keys, crate::specs::Keys::ring_of, crate::specs::Keys::phase_now, crate::specs::Keys::usage_of, crate::specs::Keys::integrity_limit_of, crate::specs::Keys::keys_given, crate::specs::Keys::keys_dropped, crate::specs::Keys::fails_too_often, crate::specs::Keys::form_in, crate::specs::Keys::has_keys_for, crate::specs::Keys::epoch_in, crate::specs::Keys::key_opened, crate::specs::Keys::key_acked, crate::specs::Keys::key_discarded))]
+#[tactic(auto, unfolding(crate::specs::Keys::key_used, crate::specs::Keys::failure_counted, crate::specs::Keys::has_keys, crate::specs::Keys::header_key, crate::specs::Keys::packet_key, crate::specs::Keys::unmasking_key, crate::specs::Keys::opening_key, crate::specs::Keys::plain_keys, crate::specs::Keys::ring_of, crate::specs::Keys::phase_now, crate::specs::Keys::usage_of, crate::specs::Keys::integrity_limit_of, crate::specs::Keys::keys_given, crate::specs::Keys::keys_dropped, crate::specs::Keys::fails_too_often, crate::specs::Keys::form_in, crate::specs::Keys::has_keys_for, crate::specs::Keys::epoch_in, crate::specs::Keys::key_opened, crate::specs::Keys::key_acked, crate::specs::Keys::key_updated, crate::specs::Keys::key_discarded))]
 impl<H: Drop, P: Drop> KeyGroup<H, P> {
     /// The group of a connection that was just made, with the keys of its Initial space.
     pub fn new(initial: SpaceKeys<H, P>) -> KeyGroup<H, P>
@@ -552,11 +606,34 @@ impl<H: Drop, P: Drop> KeyGroup<H, P> {
         }
     }
 
+    /// Whether this end may begin a new epoch: it keeps no keys of the one before, and a packet of this one was acknowledged (RFC
+    /// 9001, 6.1 and 6.5).
+    pub fn may_update(&self) -> bool
+        ensures { result ≡ ring_may_update self.now.«data» }
+    {
+        ring_may_update(&self.data)
+    }
+
+    /// This end begins a new epoch, where it may, with what that takes with it; nothing changes without that.
+    pub fn update(&mut self, fresh: Option<Fresh<P>>)
+        ensures { self.new ≡ key_updated self.old fresh }
+    {
+        update_ring(&mut self.data, fresh);
+    }
+
     /// The keys of the epoch before are dropped, where they have a floor (RFC 9001, 6.5).
     pub fn discard(&mut self)
         ensures { self.new ≡ key_discarded self.old }
     {
         discard_in_ring(&mut self.data);
+    }
+
+    /// Whether the 1-RTT keys have sealed as many packets as they are to seal before this end tries to update them, where the first
+    /// ones are to seal so many (RFC 9001, 6.6).
+    pub fn is_phase_full(&self, first: u64) -> bool
+        ensures { result ≡ is_phase_full first self.now.«data» }
+    {
+        is_phase_full(&self.data, first)
     }
 }
 
@@ -564,7 +641,7 @@ impl<H: Drop, P: PacketKey> KeyGroup<H, P> {
     /// What the ring takes with it into a new epoch, with these keys of the one behind it. None exactly without these, or without 1-RTT
     /// keys.
     pub fn fresh(&self, keys: Option<KeyPair<P>>) -> Option<Fresh<P>>
-        ensures { result ≡ fresh_for P.seal_limit P.failure_limit self.now.data keys }
+        ensures { result ≡ fresh_for P.seal_limit P.failure_limit self.now.«data» keys }
     {
         match (&self.data, keys) {
             (Some(data), Some(keys)) => Some(fresh_with(&data.ring, keys)),

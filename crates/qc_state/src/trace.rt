@@ -42,6 +42,8 @@ pub enum Answer {
     /// The call gave no value: nothing was sent, no stream can be opened, none is there to accept, or no
     /// datagram came.
     Nothing,
+    /// Whether the call did what it is for.
+    Flag(bool),
     /// A stream was opened.
     Opened(StreamId),
     /// A stream was accepted.

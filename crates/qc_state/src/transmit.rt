@@ -1,7 +1,7 @@
 //! The datagrams of a transmit: what is known of them as it goes on, and where they go.
 
 ghost use Rattle.std.specs.Prelude.{◌≡◌, ◌-◌};
-ghost use Rattle.qc_state.specs.Sending.{batch_begun, batch_grown, batch_opened, is_done, is_last_in, is_whole, next_segment, takes_another, wanted_size};
+ghost use Rattle.qc_state.specs.Batches.{batch_begun, batch_grown, batch_opened, is_done, is_last_in, is_whole, next_segment, takes_another, wanted_size};
 
 use crate::form::Form;
 use crate::spaces::is_space;
@@ -69,7 +69,7 @@ fn is_last_in(last: Option<SpaceId>, space: SpaceId) -> bool
     }
 }
 
-#[tactic(auto, unfolding(crate::specs::Sending::batch_opened, crate::specs::Sending::batch_grown, crate::specs::Sending::is_closed_up))]
+#[tactic(auto, unfolding(crate::specs::Batches::batch_opened, crate::specs::Batches::batch_grown, crate::specs::Batches::is_closed_up))]
 impl Batch {
     /// A transmit of at most `most` datagrams begins, with a close owed or without one, on a path whose datagrams have at most `segment`
     /// bytes, and are filled up to `least` that are to be. `pads` says that those with a packet of the Data space are padded up to the size of

@@ -174,6 +174,15 @@ impl End {
         Ok(())
     }
 
+    /// The application asks for an update of the keys.
+    pub(crate) fn updates(&mut self, alloc: Global, nanos: u64) -> Result<(), Fail> {
+        let input = Input::Update {
+            now: Instant::from_nanos(nanos),
+        };
+        let _none = self.step(alloc, &input)?;
+        Ok(())
+    }
+
     /// The application closes with code 7 and the reason `bye`.
     pub(crate) fn closes(&mut self, alloc: Global, nanos: u64) -> Result<(), Fail> {
         let input = Input::Close {

@@ -36,3 +36,5 @@ mod size_tests;
 mod stream_tests;
 #[cfg(test)]
 mod tally;
+#[cfg(test)]
+mod update_tests;

@@ -97,6 +97,7 @@ abbrev pub IsAnswerInRange : Answer → Type 0
 IsAnswerInRange answer.Done = Unit {0}
 IsAnswerInRange answer.Dropped = Unit {0}
 IsAnswerInRange answer.Nothing = Unit {0}
+IsAnswerInRange (answer.Flag done) = Unit {0}
 IsAnswerInRange (answer.Opened id) = id < 2 ^ 62
 IsAnswerInRange (answer.Accepted id) = id < 2 ^ 62
 IsAnswerInRange (answer.Wrote count) = count < 2 ^ 64

@@ -26,6 +26,7 @@ pub fn word_of(word: Word) -> &'static [u8]
         Word::RecvDatagram => b"recv",
         Word::Close => b"close",
         Word::Ping => b"ping",
+        Word::Update => b"update",
         Word::MaxStreams => b"streams",
         Word::SendWindow => b"sendwindow",
         Word::ReceiveWindow => b"recvwindow",

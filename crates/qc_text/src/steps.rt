@@ -53,6 +53,8 @@ fn put_answer(out: &mut Vec<u8>, word: Word, answer: &Answer) -> Result<(), Allo
         Answer::Done => out.extend_from_slice(b"answer done\n"),
         Answer::Dropped => out.extend_from_slice(b"answer dropped\n"),
         Answer::Nothing => put_nothing(out, word),
+        Answer::Flag(true) => out.extend_from_slice(b"answer true\n"),
+        Answer::Flag(false) => out.extend_from_slice(b"answer false\n"),
         Answer::Opened(id) => put_line(out, b"answer opened ", id.value()),
         Answer::Accepted(id) => put_line(out, b"answer accepted ", id.value()),
         Answer::Wrote(count) => put_line(out, b"answer wrote ", *count),

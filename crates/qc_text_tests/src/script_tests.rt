@@ -45,6 +45,7 @@ fn time_of(input: &Input) -> Option<(&'static str, u64)> {
         Input::Timeout { now } => Some(("timeout", now.nanos())),
         Input::RecvDatagram { now } => Some(("recv", now.nanos())),
         Input::Ping { now } => Some(("ping", now.nanos())),
+        Input::Update { now } => Some(("update", now.nanos())),
         _ => None,
     }
 }

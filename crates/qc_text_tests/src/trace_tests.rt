@@ -526,6 +526,7 @@ const WORDS: &[(Word, &str)] = &[
     (Word::RecvDatagram, "recv"),
     (Word::Close, "close"),
     (Word::Ping, "ping"),
+    (Word::Update, "update"),
     (Word::MaxStreams, "streams"),
     (Word::SendWindow, "sendwindow"),
     (Word::ReceiveWindow, "recvwindow"),

@@ -25,8 +25,11 @@ pub returns-in-Some-after_word-9 : goal.returns-in-Some-after_word-9
 returns-in-Some-after_word-9 c = rw c.in-Some-after_word-9.ensures (c.limit_handshake_line.ensures c.args.side)
 
 pub returns-in-Some-after_word-10 : goal.returns-in-Some-after_word-10
-returns-in-Some-after_word-10 c = rw c.in-Some-after_word-10.ensures (c.limit_failures_line.ensures c.args.side)
+returns-in-Some-after_word-10 c = rw c.in-Some-after_word-10.ensures (c.limit_data_line.ensures c.args.side)
+
+pub returns-in-Some-after_word-11 : goal.returns-in-Some-after_word-11
+returns-in-Some-after_word-11 c = rw c.in-Some-after_word-11.ensures (c.limit_failures_line.ensures c.args.side)
 
 pub returns : goal.returns
 returns c = last_read c.args.text.now c.in_default.ensures c.in_default-after_word.ensures c.in_default-after_word-2.ensures c.in_default-after_word-3.ensures c.in_default-after_word-4.ensures c.in_default-after_word-5.ensures
-    c.in_default-after_word-6.ensures c.in_default-after_word-7.ensures c.in_default-after_word-8.ensures c.in_default-after_word-9.ensures c.in_default-after_word-10.ensures c.transport_line.result c.transport_line.ensures c.args.side
+    c.in_default-after_word-6.ensures c.in_default-after_word-7.ensures c.in_default-after_word-8.ensures c.in_default-after_word-9.ensures c.in_default-after_word-10.ensures c.in_default-after_word-11.ensures c.transport_line.result c.transport_line.ensures c.args.side
