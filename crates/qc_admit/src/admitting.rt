@@ -191,7 +191,12 @@ pub fn received_in<U: Suite>(
                 core, alloc, did, coming, space, spin, source, number, payload,
             )
         }
-        Verdict::Ignored | Verdict::Failure | Verdict::BadBits | Verdict::BadUpdate => Ok(()),
+        Verdict::Ignored
+        | Verdict::Failure
+        | Verdict::BadBits
+        | Verdict::BadUpdate
+        | Verdict::RetryTaken
+        | Verdict::Versions => Ok(()),
     }
 }
 

@@ -8,7 +8,7 @@ ghost use Rattle.qc_frame.specs.FrameFits.{Fits};
 ghost use Rattle.qc_frame.specs.FrameSpelling.{spelling};
 ghost use Rattle.qc_state.specs.Ids.{is_server};
 ghost use Rattle.qc_state.specs.Moves.{is_close};
-ghost use Rattle.qc_state.specs.Receiving.{acked_after, applied_after, close_after, close_given, confirmed_after, frame_after, handed_after, inserted_after, left_after, retired_after, switched_after};
+ghost use Rattle.qc_state.specs.Receiving.{acked_after, applied_after, close_after, close_given, confirmed_after, frame_after, handed_after, inserted_after, left_after, retired_after, switched_after, token_given};
 ghost use Rattle.qc_state.specs.View.{held};
 
 use crate::behind::Behind;
@@ -32,9 +32,10 @@ fn spelled(alloc: Global, frame: &Frame<'_>) -> Result<Body, AllocError>
     Ok(Body::from_vec(bytes))
 }
 
-/// The peer closed, for this reason: the connection drains, if it was open.
+/// The peer closed, for this reason, or speaks no version that this end does: the connection drains, if it was open. Want of memory is the
+/// only refusal.
 #[tactic(auto, unfolding(qc_state::specs::Receiving::left_after))]
-pub(crate) fn left<U: Suite>(
+pub fn left<U: Suite>(
     core: &mut Core<U>,
     did: &mut Dids,
     now: Instant,
@@ -88,6 +89,20 @@ fn confirmed<U: Suite>(
     core.do_forget(SpaceId::Handshake);
     core.arm(did, now);
     Ok(())
+}
+
+/// A client's store is given a token of its server's.
+#[tactic(auto, unfolding(qc_state::specs::Receiving::token_given))]
+fn token_given<U: Suite>(
+    core: &Core<U>,
+    alloc: Global,
+    did: &mut Dids,
+    frame: &Frame<'_>,
+) -> Result<(), AllocError>
+    ensures { OnOk result ((held U.Random.stream core.now did.new) ≡ token_given (borrowed frame.now) (held U.Random.stream core.now did.old)) }
+{
+    let body = spelled(alloc, frame)?;
+    core.do_tell_gave(did, Layer::Store, body)
 }
 
 /// A close of the peer's is given to the life.
@@ -270,6 +285,10 @@ fn applied<U: Suite>(
         FrameOf::Crypto { offset, body } => crypto(core, alloc, did, coming, space, *offset, body),
         FrameOf::HandshakeDone => {
             confirmed(core, alloc, did, coming.time)?;
+            Ok(Behind::Goes)
+        }
+        FrameOf::NewToken { .. } => {
+            token_given(core, alloc, did, frame)?;
             Ok(Behind::Goes)
         }
         FrameOf::ConnectionClose { .. } | FrameOf::ApplicationClose { .. } => {

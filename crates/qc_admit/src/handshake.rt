@@ -6,7 +6,7 @@ ghost use Rattle.qc_base.specs.declared.transport_error.TransportError.{Transpor
 ghost use Rattle.qc_admit.specs.Behind.{left_by};
 ghost use Rattle.qc_admit.specs.Reading.{HasRead, HasWritten, keys_taken};
 ghost use Rattle.qc_state.specs.Lower.{ready_bytes, stream_of};
-ghost use Rattle.qc_state.specs.Progress.{ended_after, ids_fit, is_end, is_server_start, learned_after, learned_with, names_id, over_after, parameters_and, progress_after, token_after, written_after};
+ghost use Rattle.qc_state.specs.Progress.{ended_after, ids_fit, is_end, is_server_start, learned_after, learned_with, names_id, over_after, parameters_and, progress_after, same_named, token_after, written_after};
 ghost use Rattle.qc_state.specs.Life.{is_handshake};
 ghost use Rattle.qc_state.specs.Moves.{Confirm, Establish, Forget, armed_after, move_to};
 ghost use Rattle.qc_base.specs.declared.side.SpaceId.TheVariants.{Handshake};
@@ -97,6 +97,17 @@ fn names_id(named: Option<ConnectionId>, id: ConnectionId) -> bool
     match named {
         None => false,
         Some(named) => named.as_slice() == id.as_slice(),
+    }
+}
+
+/// Whether an id that may be named is this one, which there may be.
+fn same_named(named: Option<ConnectionId>, cid: Option<ConnectionId>) -> bool
+    ensures { result ≡ same_named named cid }
+{
+    match (named, cid) {
+        (None, None) => true,
+        (Some(named), Some(cid)) => named.as_slice() == cid.as_slice(),
+        (None, Some(_)) | (Some(_), None) => false,
     }
 }
 
@@ -319,7 +330,7 @@ fn ids_fit<U: Suite>(core: &Core<U>, parameters: &TransportParameters) -> bool
     match core.setup.fixed.side {
         Side::Client => {
             fits && (names_id(parameters.original_dst_cid, core.setup.fixed.first_cid)
-                && parameters.retry_src_cid.is_none())
+                && same_named(parameters.retry_src_cid, core.setup.retry_cid))
         }
         Side::Server => fits,
     }

@@ -9,3 +9,4 @@ mod payloads;
 mod stops;
 
 pub use admitting::{received, received_in};
+pub use frames::left;

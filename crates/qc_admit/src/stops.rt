@@ -3,8 +3,8 @@
 ghost use Rattle.std.specs.Prelude.{◌≡◌, Some, None, ◌||◌, ◌&&◌, nat_le, if◌then◌else◌};
 ghost use Rattle.qc_frame.specs.Frame.{ack_map, borrowed};
 ghost use Rattle.qc_state.specs.Acks.{acknowledges, acknowledges_any};
-ghost use Rattle.qc_state.specs.Receiving.{data_stop, done_stop, frame_stop, stop_in};
-ghost use Rattle.qc_state.specs.Stopping.{violation_at};
+ghost use Rattle.qc_state.specs.Receiving.{data_stop, done_stop, frame_stop, stop_in, token_stop};
+ghost use Rattle.qc_state.specs.Stopping.{encoding_error_at, violation_at};
 
 use qc_base::{NumberRange, Side, SpaceId, TransportError, TransportErrorCode};
 use qc_core::stopping::error_at;
@@ -86,6 +86,22 @@ fn done_stop(side: Side) -> Option<TransportError>
     }
 }
 
+/// The error with which a NEW_TOKEN stops its packet, if it does: a client takes one whose token has bytes, and a server doesn't expect one
+/// (RFC 9000, 19.7).
+fn token_stop(side: Side, token: &[u8]) -> Option<TransportError>
+    ensures { result ≡ token_stop side token.now }
+{
+    match side {
+        Side::Client => {
+            if token.is_empty() {
+                return Some(error_at(TransportErrorCode::FRAME_ENCODING_ERROR, None));
+            }
+            None
+        }
+        Side::Server => Some(error_at(TransportErrorCode::PROTOCOL_VIOLATION, None)),
+    }
+}
+
 /// The same in a 1-RTT packet that an end of this side receives, which skipped the number `skipped` last: an ACK of that number stops
 /// it, and frames of kinds that aren't taken so far do.
 fn data_stop(
@@ -116,6 +132,7 @@ fn data_stop(
         | FrameOf::ConnectionClose { .. }
         | FrameOf::ApplicationClose { .. } => None,
         FrameOf::HandshakeDone => done_stop(side),
+        FrameOf::NewToken { token } => token_stop(side, token),
         FrameOf::Ack(ack) => data_ack_stop(next, skipped, ack),
         _ => Some(error_at(TransportErrorCode::INTERNAL_ERROR, Some(ty))),
     }

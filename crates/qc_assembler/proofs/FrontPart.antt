@@ -1,15 +1,14 @@
 -- The part that waits outside of the tree
-use Rattle.std.proofs.Common.{◌≡◌, ◌∙◌, ap, sym, ℕ, ◌+◌, ◌-◌, ◌^◌, ◌<◌, ◌≤◌, inl, inr, List, [], ◌∷◌, true, false, length, take, drop, arith, refl, subst, Option, None, Some}
+use Rattle.std.proofs.Common.{◌≡◌, ◌∙◌, ap, sym, ℕ, ◌+◌, ◌-◌, ◌^◌, ◌<◌, ◌≤◌, inl, inr, suc, List, [], ◌∷◌, ◌++◌, true, false, length, take, drop, arith, refl, subst, Option, None, Some, Result, Ok, Err}
 use Rattle.std.specs.Option.{option_map}
-use Rattle.std.specs.Prelude.{is_some}
-use Rattle.std.specs.Map.{set_value}
-use Rattle.std.specs.BTreeMap.{is_at, insert_entry}
+use Rattle.std.specs.Prelude.{is_some, IsTrue, OnOk, OnErr}
+use Rattle.std.specs.BTreeMap.{insert_entry}
 use Rattle.std.specs.Ordering.{nat_cmp}
 use Rattle.std.proofs.lemmas.Bool.{false≢true, cases_lt, lt-ltb, le-ltb, eq-eqb}
 use Rattle.std.proofs.Common.{length-drop}
 use Rattle.std.proofs.Math.Seq.{take-length}
-use Rattle.std.proofs.lemmas.List.{length-take-le, length-take, take_all}
-use Rattle.qc_assembler.specs.Assembly.{Assembly, add, inserted, advanced, part_count, begins_at, IsFirst, IsFront}
+use Rattle.std.proofs.lemmas.List.{length-append, length-take-le, length-take, take_all}
+use Rattle.qc_assembler.specs.Assembly.{Assembly, add, byte_came, bytes_of, inserted, advanced, part_count, begins_at, IsFirst, IsFront}
 use Rattle.qc_assembler.specs.Parts.{flat, Apart, joints, starts_at, first_part, front_bytes, without_front, one, IsKept}
 use Rattle.qc_assembler.specs.Ahead.{AllUnread, AreRanges, IsSound, listed, range_past, assembled}
 use Rattle.qc_assembler.specs.Waiting.{entries_with, front_left, IsAlone, IsWhole}
@@ -86,31 +85,71 @@ pub one_part : (o : ℕ) (p : List ℕ) → 0 < length p → part_count (flat ((
 unfolding joints starts_at one
 one_part o p some = omega (arith, parts_counted ((o + length p, p) ∷ []) (one_apart o p some))
 
--- the front part that is made of the bytes
-pub next_whole : (o j : ℕ) (ranges : List (ℕ × ℕ)) (front : Option (List ℕ)) (p : List ℕ) (parts : List (ℕ × List ℕ))
-    → ranges ≡ [] → front ≡ None → parts ≡ [] → 0 < length p → o + length p < 2 ^ 64 → IsWhole o ranges front parts j → IsWhole o ranges (Some p) parts j
-unfolding entries_with IsAlone
-next_whole o j [] None p [] r f q some fits whole = record {
+-- bytes that come one after the other come in two steps
+inserted_more : (o : ℕ) (q p : List ℕ) (a : Assembly) → inserted o (q ++ p) a ≡ inserted (o + length q) p (inserted o q a)
+unfolding inserted
+inserted_more o [] p a = let e : o + 0 ≡ o = omega arith in rw e refl
+inserted_more o (b ∷ q) p a = let e : o + suc (length q) ≡ suc o + length q = omega arith in rw e (inserted_more (suc o) q p (byte_came o b a))
+
+fresh_whole : (o j : ℕ) (l : List ℕ) → IsKept [] j → 0 < length l → o + length l < 2 ^ 64 → (let f : Option (List ℕ) = Some l in IsWhole o [] f [] j)
+unfolding entries_with IsAlone AreRanges AllUnread flat
+fresh_whole o j l kept some fits = record {
   sound = record {
-    kept = one_kept o j p some whole.sound.kept;
-    ascending = whole.sound.ascending;
-    unread = unread_after o o [] p [] ((o + length p, p) ∷ []) whole.sound.unread (next_came o p);
+    kept = one_kept o j l some kept;
+    ascending = tt;
+    unread = unread_after o o [] l [] ((o + length l, l) ∷ []) tt (next_came o l);
   };
   alone = (some, fits, refl);
 }
-next_whole o j (x ∷ xs) front p parts r f q some fits whole = absurd (let no : ⊥ = cc in no)
-next_whole o j [] (Some t) p parts r f q some fits whole = absurd (let no : ⊥ = cc in no)
-next_whole o j [] None p (y ∷ ys) r f q some fits whole = absurd (let no : ⊥ = cc in no)
 
-pub next_inserted : (o : ℕ) (ranges : List (ℕ × ℕ)) (front : Option (List ℕ)) (p : List ℕ) (parts : List (ℕ × List ℕ))
-    → ranges ≡ [] → front ≡ None → parts ≡ [] → assembled o ranges (entries_with o (Some p) parts) ≡ inserted o p (assembled o ranges (entries_with o front parts))
+kept_alone : (o j : ℕ) (front : Option (List ℕ)) (parts : List (ℕ × List ℕ)) → parts ≡ [] → IsKept (entries_with o front parts) j → IsKept [] j
 unfolding entries_with
-next_inserted o ranges front p parts r f q = rw (r, f, q) (next_came o p)
+kept_alone o j None parts none kept = subst (λ (l : List (ℕ × List ℕ)). IsKept l j) none kept
+kept_alone o j (Some p) parts none kept = none_kept o j p kept
 
-pub next_few : (o : ℕ) (ranges : List (ℕ × ℕ)) (p : List ℕ) (parts : List (ℕ × List ℕ)) (a : Assembly) → 0 < length p → assembled o ranges (entries_with o (Some p) parts) ≡ a
-    → part_count a.came ≤ 1024
-unfolding entries_with assembled
-next_few o ranges p parts a some came = subst (λ (b : Assembly). part_count b.came ≤ 1024) came (let one = one_part o p some in omega (arith, one))
+-- the front with bytes behind it
+pub more_whole : (o j : ℕ) (ranges : List (ℕ × ℕ)) (front next : Option (List ℕ)) (p : List ℕ) (parts : List (ℕ × List ℕ))
+    → ranges ≡ [] → parts ≡ [] → 0 < length p → o + length (bytes_of front) + length p < 2 ^ 64 → next ≡ Some (bytes_of front ++ p) → IsWhole o ranges front parts j → IsWhole o ranges next parts j
+more_whole o j ranges front next p parts r q some fits is whole =
+    let size = length-append (bytes_of front) p in
+    let kept = kept_alone o j front parts q whole.sound.kept in
+    rw (r, q, is) (fresh_whole o j (bytes_of front ++ p) kept (omega (arith, size)) (omega (arith, size)))
+
+pub followed_whole : {E : Type 0} (res : Result (Unit {0}) E) (o j : ℕ) (ranges : List (ℕ × ℕ)) (front next : Option (List ℕ)) (p : List ℕ) (parts : List (ℕ × List ℕ))
+    → ranges ≡ [] → parts ≡ [] → 0 < length p → o + length (bytes_of front) + length p < 2 ^ 64 → OnOk res (next ≡ Some (bytes_of front ++ p)) → OnErr res (next ≡ front) → IsWhole o ranges front parts j
+    → IsWhole o ranges next parts j
+followed_whole (Ok x) o j ranges front next p parts r q some fits ok err whole = more_whole o j ranges front next p parts r q some fits ok whole
+followed_whole (Err e) o j ranges front next p parts r q some fits ok err whole = subst (λ (f : Option (List ℕ)). IsWhole o ranges f parts j) (sym err) whole
+
+more_came : (o : ℕ) (front : Option (List ℕ)) (p : List ℕ) → assembled o [] ((o + length (bytes_of front ++ p), bytes_of front ++ p) ∷ []) ≡ inserted (o + length (bytes_of front)) p (assembled o [] (entries_with o front []))
+unfolding entries_with bytes_of
+more_came o None p = let e : o + 0 ≡ o = omega arith in next_came o p ∙ ap (λ (i : ℕ). inserted i p (assembled o [] [])) (sym e)
+more_came o (Some q) p = next_came o (q ++ p) ∙ inserted_more o q p (assembled o [] []) ∙ ap (λ (a : Assembly). inserted (o + length q) p a) (sym (next_came o q))
+
+pub more_inserted : (o : ℕ) (ranges : List (ℕ × ℕ)) (front next : Option (List ℕ)) (p : List ℕ) (parts : List (ℕ × List ℕ))
+    → ranges ≡ [] → parts ≡ [] → next ≡ Some (bytes_of front ++ p)
+    → assembled o ranges (entries_with o next parts) ≡ inserted (o + length (bytes_of front)) p (assembled o ranges (entries_with o front parts))
+more_inserted o ranges front next p parts r q is =
+    rw (r, q) (ap (λ (l : List (ℕ × List ℕ)). assembled o [] l) (with_some o next (bytes_of front ++ p) [] is) ∙ more_came o front p)
+
+pub more_few : (o : ℕ) (ranges : List (ℕ × ℕ)) (front next : Option (List ℕ)) (p : List ℕ) (parts : List (ℕ × List ℕ)) (a : Assembly) → 0 < length p → next ≡ Some (bytes_of front ++ p)
+    → assembled o ranges (entries_with o next parts) ≡ a → part_count a.came ≤ 1024
+unfolding assembled
+more_few o ranges front next p parts a some is came =
+    let size = length-append (bytes_of front) p in
+    let one = one_part o (bytes_of front ++ p) (omega (arith, size)) in
+    subst (λ (b : Assembly). part_count b.came ≤ 1024) came
+    (subst (λ (l : List (ℕ × List ℕ)). part_count (flat l) ≤ 1024) (sym (with_some o next (bytes_of front ++ p) parts is)) (omega (arith, one)))
+
+pub alone_part : (o : ℕ) (front : Option (List ℕ)) (parts : List (ℕ × List ℕ)) → is_some front ≡ true → IsAlone o front parts → 1 ≡ part_count (flat (entries_with o front parts))
+unfolding entries_with IsAlone
+alone_part o None parts e alone = absurd (false≢true e)
+alone_part o (Some p) parts e alone = sym (one_part o p alone.0)
+
+pub alone_fits : (o : ℕ) (front : Option (List ℕ)) (parts : List (ℕ × List ℕ)) → is_some front ≡ true → IsAlone o front parts → o + length (bytes_of front) < 2 ^ 64
+unfolding IsAlone bytes_of
+alone_fits o None parts e alone = absurd (false≢true e)
+alone_fits o (Some p) parts e alone = alone.1
 
 -- ---- what a read of the front part gives and leaves
 
@@ -279,9 +318,17 @@ pub is_absent : (front : Option (List ℕ)) → is_some front ≡ false → fron
 is_absent None e = refl
 is_absent (Some p) e = absurd (false≢true (sym e))
 
--- room is made in an empty tree, and the front part put there
-pub moved_in : (o : ℕ) (front : Option (List ℕ)) (p : List ℕ) (parts : List (ℕ × List ℕ)) → front ≡ Some p → IsAlone o front parts
-    → set_value (is_at (nat_cmp (o + length p))) (insert_entry nat_cmp parts (o + length p) []) p ≡ entries_with o front parts
-moved_in o front p parts e alone =
-    let all = some_alone o front p parts e alone in
-    rw (with_some o front p parts e, all.2, le-ltb (o + length p) (o + length p) (omega arith), eq-eqb (o + length p) (o + length p) refl) refl
+-- what waits there is put into an empty tree as one part
+pub moved_in : (o end : ℕ) (front : Option (List ℕ)) (p : List ℕ) (parts moved : List (ℕ × List ℕ)) → is_some front ≡ true → IsAlone o front parts → end ≡ o + length (bytes_of front) → p ≡ bytes_of front
+    → moved ≡ insert_entry nat_cmp parts end p → moved ≡ entries_with o front parts
+unfolding entries_with IsAlone bytes_of
+moved_in o end None p parts moved e alone is_end is_p is = absurd (false≢true e)
+moved_in o end (Some q) p parts moved e alone is_end is_p is = rw (is, alone.2, is_end, is_p) refl
+
+-- a read of at most n bytes is one of at most so many
+pub front_within : (n most : ℕ) (a : Assembly) (chunk : Option (List ℕ)) → length (bytes_of chunk) ≤ most → (0 < most → 0 < length (bytes_of chunk)) → IsFront n a chunk → IsFront most a chunk
+front_within n most a chunk within some front = record { given = front.given; within = within; some = λ _ h. some h; first = front.first }
+
+pub front_stands : (f : List ℕ → List ℕ) (front : Option (List ℕ)) (chunk : List ℕ) → Some chunk ≡ option_map f front → IsTrue (is_some front)
+front_stands f None chunk e = absurd (let no : ⊥ = cc in no)
+front_stands f (Some p) chunk e = refl

@@ -9,3 +9,4 @@ pub mod ReadLaw
 pub mod Unread
 pub mod Noting
 pub mod FrontPart
+pub mod Chained

@@ -3,3 +3,4 @@ pub mod Parts
 pub mod Ahead
 pub mod Reads
 pub mod Waiting
+pub mod Chain

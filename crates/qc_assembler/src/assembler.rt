@@ -3,10 +3,11 @@ ghost use Rattle.std.specs.Prelude.{◌≡◌, ℕ, ◌+◌, ◌-◌, ◌^◌, �
 ghost use Rattle.qc_assembler.specs.Assembly.{nothing, inserted, part_count, IsFirst, IsFront, advanced, bytes_of, discarded, chunk_bytes, chunk_offset, taken};
 
 use crate::ahead::note_range;
+use crate::chain::Chain;
 use crate::front::{begins_at, discard_front, peek_front, take_front};
 use crate::insert::{InsertError, insert_or_undo};
 use crate::parts::part_count;
-use crate::waiting::{is_next, settle, take_waiting};
+use crate::waiting::{follow, is_next, settle};
 use bytes::Bytes;
 use std::alloc::{AllocError, Global};
 use std::collections::BTreeMap;
@@ -21,8 +22,8 @@ pub struct Assembler {
     ahead: BTreeMap<u64, u64>,
     // what came and wasn't read, each part under its end
     parts: BTreeMap<u64, Bytes>,
-    // a part that begins at the offset read so far, while no other waits
-    front: Option<Bytes>,
+    // parts in a row that begin at the offset read so far, while no other waits
+    front: Chain,
     // how many parts begin where the one before ends
     joined: u64,
     // the ends of the parts that the last insertion placed
@@ -51,7 +52,7 @@ impl Assembler {
             read: 0,
             ahead: BTreeMap::new(alloc),
             parts: BTreeMap::new(alloc),
-            front: None,
+            front: Chain::new(alloc),
             joined: 0,
             placed: Vec::new(alloc),
         }
@@ -80,8 +81,7 @@ impl Assembler {
             offset,
             &bytes,
         ) {
-            self.front = Some(bytes);
-            return Ok(());
+            return follow(&mut self.front, bytes);
         }
         if settle(self.read, &mut self.front, &mut self.parts).is_err() {
             return Err(InsertError::OutOfMemory);
@@ -101,10 +101,10 @@ impl Assembler {
     pub fn parts(&self) -> u64
         ensures { result ≡ part_count self.now.came }
     {
-        match &self.front {
-            Some(_) => 1,
-            None => part_count(&self.parts, self.joined),
+        if self.front.is_none() {
+            return part_count(&self.parts, self.joined);
         }
+        1
     }
 }
 
@@ -120,7 +120,7 @@ impl Assembler {
         ensures after { IfOk result (λ chunk. self.new ≡ advanced (length (bytes_of chunk)) self.old) }
         ensures err { OnErr result (self.new ≡ self.old) }
     {
-        if let Some(part) = take_waiting(&mut self.front, most)? {
+        if let Some(part) = self.front.take(most)? {
             self.read += part.len() as u64;
             return Ok(Some(part));
         }
@@ -162,7 +162,7 @@ impl Assembler {
     pub fn clear(&mut self)
         ensures { self.new ≡ discarded self.old }
     {
-        self.front = None;
+        self.front.clear();
         self.parts.clear();
         self.joined = 0;
     }

@@ -3,6 +3,7 @@
 
 mod ahead;
 mod assembler;
+mod chain;
 mod front;
 mod insert;
 mod laws;

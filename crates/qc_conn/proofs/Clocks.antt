@@ -1,6 +1,6 @@
 -- Behind each call that takes a time, the greatest time is the greater of that one and of the one before.
-use Rattle.std.proofs.Common.{◌≡◌, ℕ, List, [], ap, ◌∙◌, Option, Result, Ok, Err}
-use Rattle.std.specs.Prelude.{max, OnOk}
+use Rattle.std.proofs.Common.{◌≡◌, ℕ, List, [], ap, ◌∙◌, Option}
+use Rattle.std.specs.Prelude.{max}
 use Rattle.qc_receive.specs.Cutting.{rest_of}
 use Rattle.qc_receive.specs.Events.{GivesRight, handed_after, time_of_event}
 use Rattle.qc_receive.specs.declared.events.ConnectionEvent.{ConnectionEvent}
@@ -12,16 +12,6 @@ use Rattle.qc_state.specs.Types.{Types, Meaning}
 use Rattle.qc_state.specs.View.{View, at}
 use Rattle.qc_laws.proofs.Clocks.{close_clock, event_clock, issue_clock, transmit_clock}
 use Rattle.qc_conn.specs.Seen.{Sends}
-
--- what holds in any case holds where the call is done
-pub held_done : {T E : Type 0} (r : Result T E) (P : Type 0) → P → OnOk r P
-held_done (Ok x) P p = p
-held_done (Err e) P p = tt
-
--- a call that isn't done owes nothing
-pub none_done : {T E : Type 0} (r : Result T E) (e : E) (P : Type 0) → r ≡ Err e → OnOk r P
-none_done (Ok x) e P is = cc
-none_done (Err x) e P is = tt
 
 module _ {t : Types} where
   -- an endpoint hands over what came

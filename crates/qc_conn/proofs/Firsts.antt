@@ -15,7 +15,7 @@ use Rattle.qc_header.specs.Piece.{Piece}
 use Rattle.qc_state.specs.declared.coming.Coming.{Coming}
 use Rattle.qc_state.specs.declared.deeds.Did.{Did}
 use Rattle.qc_state.specs.Life.{is_drained}
-use Rattle.qc_state.specs.Moves.{Clock, Issue, state_move, move_to, life_move, lower_move, setup_move}
+use Rattle.qc_state.specs.Moves.{Clock, Issue, state_move, move_to, deeds_move, life_move, lower_move, setup_move}
 use Rattle.qc_state.specs.Receiving.{datagram_after, event_after, is_taken}
 use Rattle.qc_state.specs.Run.{began}
 use Rattle.qc_state.specs.Setup.{is_first_awaited, ideal_setup}
@@ -62,14 +62,17 @@ told_answer {t} f s mid now ds answer told none is = is ∙ ap (λ (x : List Did
 
 -- what an endpoint hands over
 pub event_leads : {t : Types} (m : Meaning t) (event : ConnectionEvent) (now : ℕ) (remote : SocketAddr) (mark : Option EcnCodepoint) (first : Piece) (behind : Option (BytesMut Global)) (s mid last : View t) (ds es : List Did) → event ≡ Datagram now remote mark first behind → mid ≡ state_move (Clock now) s → ds ≡ [] →
-    at last es ≡ event_after m (record { time = now; remote = remote; mark = mark }) first (rest_of behind) (at mid ds) → last ≡ (handed_after m event (began s (time_of_event event))).state
+    at last es ≡ event_after m (record { time = now; remote = remote; mark = mark }) first (rest_of behind) (at mid ds) → at last es ≡ handed_after m event (began s (time_of_event event))
 event_leads {t} m event now remote mark first behind s mid last ds es case told none is =
-    told_leads (event_after m (record { time = now; remote = remote; mark = mark }) first (rest_of behind)) s mid last now ds es told none is
-    ∙ sym (ap (λ (e : ConnectionEvent). (handed_after m e (began s (time_of_event e))).state) case)
+    told_answer (event_after m (record { time = now; remote = remote; mark = mark }) first (rest_of behind)) s mid now ds (at last es) told none is
+    ∙ sym (ap (λ (e : ConnectionEvent). handed_after m e (began s (time_of_event e))) case)
 
 -- so ids that it gives
-pub given_leads : {t : Types} (m : Meaning t) (event : ConnectionEvent) (given read : List IssuedCid) (now : ℕ) (s mid last : View t) → event ≡ NewIdentifiers given now → read ≡ given → mid ≡ state_move (Clock now) s → last ≡ state_move (Issue now read) mid →
-    last ≡ (handed_after m event (began s (time_of_event event))).state
-unfolding began move_to
-given_leads {t} m event given read now s mid last case same told is =
-    is ∙ ap (λ (x : List IssuedCid). state_move (Issue now x) mid) same ∙ ap (λ (v : View t). state_move (Issue now given) v) told ∙ sym (ap (λ (e : ConnectionEvent). (handed_after m e (began s (time_of_event e))).state) case)
+pub given_leads : {t : Types} (m : Meaning t) (event : ConnectionEvent) (given read : List IssuedCid) (now : ℕ) (s mid last : View t) (ds : List Did) → event ≡ NewIdentifiers given now → read ≡ given → mid ≡ state_move (Clock now) s → ds ≡ [] → last ≡ state_move (Issue now read) mid →
+    at last ds ≡ handed_after m event (began s (time_of_event event))
+unfolding began move_to deeds_move
+given_leads {t} m event given read now s mid last ds case same told none is =
+    let leads : last ≡ state_move (Issue now given) (state_move (Clock now) s) =
+    is ∙ ap (λ (x : List IssuedCid). state_move (Issue now x) mid) same ∙ ap (λ (v : View t). state_move (Issue now given) v) told in
+    ap (λ (v : View t). at v ds) leads ∙ ap (λ (x : List Did). at (state_move (Issue now given) (state_move (Clock now) s)) x) none
+    ∙ sym (ap (λ (e : ConnectionEvent). handed_after m e (began s (time_of_event e))) case)

@@ -7,6 +7,7 @@ pub mod Reports
 pub mod Firsts
 mod NewEnds
 mod NewIds
+mod NewKeys
 mod NewLaws
 pub mod Posting
 mod Sealing

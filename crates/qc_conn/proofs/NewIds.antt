@@ -39,7 +39,7 @@ module _ {t : Types} where
       ((cid : List ℕ) → paths.peer_cid ≡ Some cid → cid ≡ paths.current.remote_cid) → HasNewIds (just_made {t = t} keys session hello token words fixed paths transport time)
   unfolding first_local_cids
   made keys session hello token words fixed paths transport time chosen =
-      record { local = _; ids = refl; size = refl; chosen = chosen; parameters = refl; handshake = refl; one_rtt = refl; flight = none_flown transport }
+      record { local = _; ids = refl; size = refl; chosen = chosen; parameters = refl; retry = refl; handshake = refl; one_rtt = refl; flight = none_flown transport }
 
   -- of a client
   client_new : (m : Meaning t) (session : t.S) (words : Stream) (fixed : Fixed) (remote : SocketAddr) (first_cid token : List ℕ) (transport : TransportValues) (congestion : t.C) (time : ℕ) →

@@ -69,7 +69,7 @@ use Rattle.qc_state.specs.declared.trace.Answer.TheVariants as answer
 use Rattle.qc_state.specs.declared.waiting.SpaceWaiting.{SpaceWaiting}
 use Rattle.qc_state.specs.declared.waiting.Waiting.{Waiting}
 use Rattle.qc_state.specs.Life.{is_closed, is_open, data_ready, datagram_heard, drained_event, identifiers_wanted, life_closed, life_drained, life_established, life_raised, reason_given, retirement_told, token_learned, token_told, notices_reported, drained_reported, lost_reported, connected_reported, ready_reported}
-use Rattle.qc_state.specs.Moves.{Probe, Move, Take, Seal, Forget, Raise, Say, Give, Enter, Fail, Accept, Fix, Hear, Ack, Fire, Arm, Pace, Release, Begin, Skip, Come, Read, Write, Ready, Learn, Establish, Tell, PeerClosesToo, PeerCloses, Owe, Shut, Hand, Insert, Switch, Retire, Issue, Outlive, Call, Post, IsTold, MayMove, told, state_move, move_to, deeds_move, life_move, paths_move, waiting_move, keys_move, Expect, Confirm, Token, Want, Spend, Hold, Finish, Ask, Discard, Unseal, Update}
+use Rattle.qc_state.specs.Moves.{Probe, Move, Take, Seal, Forget, Raise, Say, Give, Enter, Fail, Accept, Fix, Hear, Ack, Fire, Arm, Pace, Release, Begin, Skip, Come, Read, Write, Ready, Learn, Establish, Tell, PeerClosesToo, PeerCloses, Owe, Shut, Hand, Insert, Switch, Retire, Issue, Outlive, Call, Post, IsTold, MayMove, told, state_move, move_to, deeds_move, life_move, paths_move, waiting_move, keys_move, Expect, Confirm, Token, Want, Spend, Hold, Finish, Ask, Discard, Unseal, Update, Renew}
 use Rattle.qc_state.specs.Datagrams.{sent_answer, taken_answer, tells_datagram}
 use Rattle.qc_state.specs.Forms.{is_early, number_space}
 use Rattle.qc_state.specs.Ids.{active_limit}
@@ -89,7 +89,7 @@ use Rattle.qc_state.specs.First.{first_view, server_view}
 use Rattle.qc_state.specs.declared.setup.Fixed.{Fixed}
 use Rattle.qc_state.specs.Allowed.{Waits, WaitAll}
 use Rattle.qc_state.specs.Offers.{packet_begun}
-use Rattle.qc_state.specs.Waiting.{again, all_again, lost_in, confirmed, all_confirmed, acked_in, packets_lost, packets_acked, probes_added, probe_spent, frames_again, fired_in, ping_asked, waiting_without, close_begun, packet_told, came_in, packet_came, ack_released, bundle_next, crypto_more, crypto_written, nothing_left, space_left, without, without_all, done_asked}
+use Rattle.qc_state.specs.Waiting.{again, all_again, lost_in, confirmed, all_confirmed, acked_in, packets_lost, packets_acked, probes_added, probe_spent, frames_again, fired_in, ping_asked, waiting_without, close_begun, packet_told, came_in, packet_came, ack_released, bundle_next, crypto_more, crypto_written, nothing_left, space_left, without, without_all, done_asked, hello_again, bytes_again}
 use Rattle.qc_state.proofs.Probed.{begun_holds, taken_space}
 use Rattle.qc_state.proofs.Updates.{holds_updated}
 use Rattle.qc_state.proofs.Quieted.{probed_current}
@@ -514,11 +514,12 @@ module _ {t : Types} where
   keeps_next a b c g h = record { deeds = λ b p. h.deeds (g.crypto b) (g.deeds b p); crypto = λ p. h.crypto (g.crypto p); path = h.path ∙ g.path; notices = λ p k. h.notices (subst IsPlainAddress (sym g.path) p) (g.notices p k) }
 
   keeps_move : (x : Move t) → IsReceived x → (a : At t) → MayMove x a.state → Keeps a (move_to x a)
-  unfolding MayMove move_to state_move deeds_move waiting_move close_begun space_left packet_came came_in crypto_written done_asked paths_move path_kept path_named path_received path_accepted peer_fixed life_move data_ready life_established life_drained life_closed life_raised token_learned identifiers_wanted path_capped
+  unfolding MayMove move_to state_move deeds_move waiting_move close_begun space_left hello_again bytes_again range_lost packet_came came_in crypto_written done_asked paths_move path_kept path_named path_received path_accepted peer_fixed life_move data_ready life_established life_drained life_closed life_raised token_learned identifiers_wanted path_capped
   keeps_move (Forget id) r a h = record { deeds = λ b p. p; crypto = set_below a.state.waiting id _ (nothing_below (space_of a.state.waiting.spaces id)); path = refl; notices = λ p k. k }
   keeps_move (Enter id n v) r a h = record { deeds = λ b. one_more a.did _ tt; crypto = λ p. p; path = refl; notices = λ p k. k }
   keeps_move (Expect token) r a h = record { deeds = λ b p. p; crypto = λ p. p; path = refl; notices = λ p k. k }
   keeps_move Fail r a h = record { deeds = λ b p. p; crypto = λ p. p; path = refl; notices = λ p k. k }
+  keeps_move (Renew time cid token keys) r a h = record { deeds = λ b. one_more a.did _ tt; crypto = set_below a.state.waiting Initial (bytes_again (space_of a.state.waiting.spaces Initial)) (λ p. p); path = refl; notices = λ p k. k }
   keeps_move (Unseal time n which fresh session) r a h = record { deeds = λ b p. p; crypto = λ p. p; path = refl; notices = λ p k. k }
   keeps_move (Accept time id n e g v) r a h = record {
     deeds = λ b. one_more a.did _ tt;

@@ -13,12 +13,13 @@ use Rattle.qc_state.specs.View.{View, Held, at}
 use Rattle.qc_streams.specs.declared.state.StreamsState.{StreamsState}
 use Rattle.qc_streams.specs.Within.{StaysWithin}
 
--- the state, the mark that a call met want of memory, which is that of the streams, and how many steps `drive` has given of it, as far as
--- its type counts
+-- the state, the mark that a call met want of memory, which is that of the streams, how many steps `drive` has given of it, as far as
+-- its type counts, and the name of a client's server
 pub record Seen (t : Types) (R : Type 0) : Type 0 where
   pub core : Held t R
   pub failed : Bool
   pub steps : ℕ
+  pub name : List ℕ
 
 module _ {t : Types} {R : Type 0} where
   -- the same but for the streams, and with their mark

@@ -8,6 +8,7 @@ ghost use Rattle.qc_state.specs.Updating.{fresh_now, may_update_now, updated_aft
 ghost use Rattle.qc_text.specs.OneText.{IsPlainAddress, IsPlainStart};
 ghost use Rattle.qc_conn.specs.Opened.{OnDone, lost_of};
 ghost use Rattle.qc_conn.specs.Seen.{Sends, SendsSealed, counted, with_streams};
+ghost use Rattle.qc_conn.specs.Stored.{StoresMore, stored, tokens_in};
 ghost use Rattle.qc_receive.specs.Cutting.{rest_of};
 ghost use Rattle.qc_receive.specs.Events.{GivesRight, IsExpected, LeavesBytes, handed_after, time_of_event};
 ghost use Rattle.qc_receive.specs.FirstPacket.{IsFirstPacket, first_reason, size_of};
@@ -32,16 +33,18 @@ ghost use Rattle.qc_laws.specs.UpdateLaws.{AreLast};
 ghost use Rattle.qc_laws.specs.IdLaws.{CarriesUsed};
 ghost use Rattle.qc_laws.specs.PostLaws.{HasNewDatagrams};
 ghost use Rattle.qc_laws.specs.ReadLaws.{HasNewStreams};
+ghost use Rattle.qc_laws.specs.RetryLaws.{HasInitialKeys};
 ghost use Rattle.qc_laws.specs.StreamLaws.{IsUnread};
 ghost use Rattle.qc_laws.specs.TimerLaws.{TimerHolds};
 ghost use Rattle.qc_state.specs.Timers.{has_come, next_timeout};
-ghost use Rattle.qc_state.specs.View.{at, ideal};
+ghost use Rattle.qc_state.specs.View.{at, ideal, held};
 ghost use Rattle.qc_streams.specs.Counts.{by_dir};
 ghost use Rattle.qc_streams.specs.Streams.{failed};
 ghost use Rattle.qc_streams.specs.Settings.{max_concurrent_set, receive_window_set, send_window_set};
 ghost use Rattle.qc_streams.specs.Waits.{ConcurrentSet, ReceiveWindowSet, SendWindowSet};
 
 use crate::steps::{core_event, core_first, core_first_packet, core_send, core_step, core_timeout};
+use crate::storing::store_all;
 use bytes::{Bytes, BytesMut};
 use qc_base::{Dir, EcnCodepoint, Fault, Instant, IssuedCid, Side, SpaceId, VarInt};
 use qc_cids::GiveRefusal;
@@ -51,7 +54,7 @@ use qc_header::InitialPacket;
 use qc_making::{ClientSetup, ServerSetup};
 use qc_receive::ConnectionEvent;
 use qc_state::{
-    Coming, ConnectionError, EndpointEvent, Event, Input, Means, Step, Suite, Transmit,
+    Coming, ConnectionError, Dids, EndpointEvent, Event, Input, Means, Step, Suite, Transmit,
 };
 use std::alloc::{AllocError, Global};
 use std::marker::Model;
@@ -66,6 +69,7 @@ use std::net::SocketAddr;
 pub struct Connection<U: Suite> {
     pub(crate) core: Core<U>,
     steps: u64,
+    server_name: String,
 }
 
 /// Why a server that was handed its first packet doesn't go on.
@@ -78,11 +82,12 @@ pub enum FirstError {
 }
 
 impl<U: Suite> Model for Connection<U> {
+    ghost use Rattle.std.specs.Prelude.{string_bytes};
     ghost use Rattle.qc_conn.specs.Seen.{Seen};
 
     ghost Value = { Seen (record { S = U.Session; H = U.Session.HeaderKey; P = U.Session.PacketKey; D = U.Session.HandshakeData; I = U.Session.PeerIdentity; C = U.Control.Controller }) U.Random };
 
-    ghost view = { λ c. record { core = c.core; failed = c.core.lower.streams.failed; steps = c.steps } };
+    ghost view = { λ c. record { core = c.core; failed = c.core.lower.streams.failed; steps = c.steps; name = string_bytes c.server_name } };
 }
 
 /// A token of this server, taken out of the store; one without bytes where the store has none.
@@ -125,12 +130,19 @@ impl<U: Suite> Connection<U> {
         ensures datagrams { IfOk result (λ c. HasNewDatagrams (ideal U.Random.stream c.core)) }
         ensures ids { IfOk result (λ c. CarriesUsed (ideal U.Random.stream c.core)) }
         ensures new_ids { IfOk result (λ c. HasNewIds (ideal U.Random.stream c.core)) }
+        ensures initial_keys { IfOk result (λ c. HasInitialKeys ⟦<U as Means>⟧.meaning (ideal U.Random.stream c.core)) }
         ensures alive { IfOk result (λ c. c.failed ≡ false) }
+        ensures name { IfOk result (λ c. c.name ≡ string_bytes setup.server_name) }
         ensures store { OnOk result (store.new ≡ G.after_take store.old (string_bytes setup.server_name)) }
     {
+        let server_name = String::from_str(alloc, setup.server_name.as_str())?;
         let token = token_of(store, setup.server_name.as_str())?;
         let core = qc_making::new_client(alloc, setup, token, now)?;
-        Ok(Connection { core, steps: 0 })
+        Ok(Connection {
+            core,
+            steps: 0,
+            server_name,
+        })
     }
 
     /// A server's connection, made at `now` of a server's session that has neither read nor written, for a client whose first
@@ -158,10 +170,15 @@ impl<U: Suite> Connection<U> {
         ensures datagrams { IfOk result (λ c. HasNewDatagrams (ideal U.Random.stream c.core)) }
         ensures ids { IfOk result (λ c. CarriesUsed (ideal U.Random.stream c.core)) }
         ensures new_ids { IfOk result (λ c. HasNewIds (ideal U.Random.stream c.core)) }
+        ensures initial_keys { IfOk result (λ c. HasInitialKeys ⟦<U as Means>⟧.meaning (ideal U.Random.stream c.core)) }
         ensures alive { IfOk result (λ c. c.failed ≡ false) }
     {
         let core = qc_making::new_server(alloc, setup, now)?;
-        Ok(Connection { core, steps: 0 })
+        Ok(Connection {
+            core,
+            steps: 0,
+            server_name: String::new(alloc),
+        })
     }
 
     /// Whether this is a server that waits for its first packet: then `first_datagram` takes what comes, and else `handle_event`.
@@ -215,11 +232,61 @@ impl<U: Suite> Connection<U> {
         }
     }
 
+    /// What an endpoint hands over, but for the tokens. Answers what was done. `OutOfMemory` for want of memory; the connection is then marked
+    /// as failed. `Failed` exactly where it was marked before; then nothing changes.
+    fn take_event(&mut self, alloc: Global, event: ConnectionEvent) -> Result<Dids, Fault>
+        requires some { LeavesBytes event }
+        requires given { GivesRight event self.old.core.lower.ids }
+        ensures leads { IfOk result (λ did. (held U.Random.stream self.new.core did) ≡ handed_after ⟦<U as Means>⟧.meaning event (began (ideal U.Random.stream self.old.core) (time_of_event event))) }
+        ensures clock { OnOk result (self.new.core.timers.greatest ≡ max self.old.core.timers.greatest (time_of_event event)) }
+        ensures alive { OnOk result (self.new.failed ≡ false) }
+        ensures failed { self.old.failed ≡ true → (result ≡ Err Fault.Failed) × (self.new ≡ self.old) }
+        ensures cause { result ≡ Err Fault.Failed → self.old.failed ≡ true }
+        ensures memory { result ≡ Err Fault.OutOfMemory → self.new.failed ≡ true }
+        ensures name { self.new.name ≡ self.old.name }
+    {
+        if self.is_failed() {
+            return Err(Fault::Failed);
+        }
+        match core_event(&mut self.core, alloc, event) {
+            Ok(did) => Ok(did),
+            Err(_) => {
+                self.fail();
+                Err(Fault::OutOfMemory)
+            }
+        }
+    }
+
+    /// The tokens of what was done go into the store under the server's name. Want of memory is the only refusal: the first of them may be there
+    /// then, and the connection is marked as failed.
+    pub(crate) fn store_tokens<G: TokenStore>(
+        &mut self,
+        alloc: Global,
+        did: &Dids,
+        store: &mut G,
+    ) -> Result<(), AllocError>
+        ensures kept { OnOk result (self.new ≡ self.old) }
+        ensures mark { OnErr result (self.new.failed ≡ true) }
+        ensures steps { self.new.steps ≡ self.old.steps }
+        ensures name { self.new.name ≡ self.old.name }
+        ensures store { OnOk result (store.new ≡ stored G.inserted self.old.name (tokens_in did.now) store.old) }
+        ensures store_part { OnErr result (StoresMore G.inserted self.old.name store.old store.new) }
+    {
+        match store_all(alloc, store, self.server_name.as_str(), did.as_slice()) {
+            Ok(()) => Ok(()),
+            Err(e) => {
+                self.fail();
+                Err(e)
+            }
+        }
+    }
+
     /// An endpoint hands over what came: a datagram that it cut with this connection's version, the length of its ids and its
     /// word on the fixed bit, as `PartialDecode::new` gave its first packet and what is behind it: `remaining` is None where
     /// nothing is, and never has no bytes. The datagram does what it does whole at an end that doesn't wait for its first packet.
     /// Or it gives ids of this end for the peer to use (RFC 9000, 5.1.1): no more than `NeedIdentifiers` and `RetireConnectionId` asked
-    /// for, with the next sequence numbers, and as long as this end's. So far nothing goes into the store.
+    /// for, with the next sequence numbers, and as long as this end's. The tokens of the NEW_TOKEN frames of admitted packets go into the store, in
+    /// order, under the server's name (RFC 9000, 8.1.3).
     ///
     /// # Errors
     ///
@@ -240,18 +307,16 @@ impl<U: Suite> Connection<U> {
         ensures failed { self.old.failed ≡ true → (result ≡ Err Fault.Failed) × (self.new ≡ self.old) }
         ensures cause { result ≡ Err Fault.Failed → self.old.failed ≡ true }
         ensures memory { result ≡ Err Fault.OutOfMemory → self.new.failed ≡ true }
-        ensures store { store.new ≡ store.old }
+        ensures store { OnOk result (store.new ≡ stored G.inserted self.old.name (tokens_in (handed_after ⟦<U as Means>⟧.meaning event (began (ideal U.Random.stream self.old.core) (time_of_event event))).did) store.old) }
+        ensures store_part { OnErr result (StoresMore G.inserted self.old.name store.old store.new) }
+        ensures unstored { result ≡ Err Fault.Failed → store.new ≡ store.old }
     {
-        let _store = store;
-        if self.is_failed() {
-            return Err(Fault::Failed);
-        }
-        match core_event(&mut self.core, alloc, event) {
-            Ok(()) => Ok(()),
-            Err(_) => {
-                self.fail();
-                Err(Fault::OutOfMemory)
-            }
+        match self.take_event(alloc, event) {
+            Ok(did) => match self.store_tokens(alloc, &did, store) {
+                Ok(()) => Ok(()),
+                Err(_) => Err(Fault::OutOfMemory),
+            },
+            Err(fault) => Err(fault),
         }
     }
 
@@ -427,6 +492,8 @@ impl<U: Suite> Connection<U> {
         ensures may { result ≡ may_update_now (ideal U.Random.stream self.old.core) }
         ensures leads { (ideal U.Random.stream self.new.core) ≡ (updated_after ⟦<U as Means>⟧.meaning (at (ideal U.Random.stream self.old.core) [])).state }
         ensures mark { self.new.failed ≡ self.old.failed }
+        ensures kept { result ≡ false → self.new ≡ self.old }
+        ensures rises { result ≡ true → IsSome (fresh_now ⟦<U as Means>⟧.meaning (ideal U.Random.stream self.old.core)) → epoch_in self.new.core.keys OneRtt ≡ plus (epoch_in self.old.core.keys OneRtt) 1 }
     {
         self.force_key_update()
     }
@@ -456,12 +523,17 @@ impl<U: Suite> Connection<U> {
         self.core.poll_timeout()
     }
 
-    /// A connection of this core, which has failed where the core's streams are so marked.
-    pub fn from_core(core: Core<U>) -> Connection<U>
+    /// A connection of this core, whose server has no name, and which has failed where the core's streams are so marked.
+    pub fn from_core(alloc: Global, core: Core<U>) -> Connection<U>
         ensures core { result.core ≡ core }
         ensures mark { result.failed ≡ core.lower.streams.failed }
+        ensures name { result.name ≡ [] }
     {
-        Connection { core, steps: 0 }
+        Connection {
+            core,
+            steps: 0,
+            server_name: String::new(alloc),
+        }
     }
 
     /// One input of `drive`: the call, and the reports after it.
@@ -474,6 +546,7 @@ impl<U: Suite> Connection<U> {
         ensures cause { result ≡ Err Fault.Failed → self.old.failed ≡ true }
         ensures memory { result ≡ Err Fault.OutOfMemory → self.new.failed ≡ true }
         ensures count { self.new.steps ≡ self.old.steps }
+        ensures name { self.new.name ≡ self.old.name }
     {
         if self.is_failed() {
             return Err(Fault::Failed);
@@ -534,6 +607,7 @@ impl<U: Suite> Connection<U> {
     /// `drive` gave one step more of it.
     pub(crate) fn count(&mut self)
         ensures count { self.new.steps ≡ counted self.old.steps 1 }
+        ensures name { self.new.name ≡ self.old.name }
         ensures mark { self.new.failed ≡ self.old.failed }
         ensures core { self.new.core ≡ self.old.core }
     {

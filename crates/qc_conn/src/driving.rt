@@ -1,6 +1,6 @@
 //! Driving a connection: inputs in, the trace out.
 
-ghost use Rattle.std.specs.Prelude.{◌≡◌, ◌≢◌, ◌≤◌, ◌<◌, ℕ, List, [], length, true, false, None, OnOk, OnErr, IfOk, IfErr, IsErr};
+ghost use Rattle.std.specs.Prelude.{◌≡◌, ◌≢◌, ◌≤◌, ◌<◌, ◌++◌, ◌∷◌, ℕ, List, [], length, true, false, None, OnOk, OnErr, IfOk, IfErr, IsErr};
 ghost use Rattle.std.specs.List.{All};
 ghost use Rattle.qc_text.specs.OneText.{IsPlain, IsPlainStart};
 ghost use Rattle.qc_conn.specs.Refusal.{bad_call, bad_direction, bad_ids, refusal_of, NamesInput, RefusedAt, TakesAll};
@@ -12,7 +12,7 @@ ghost use Rattle.qc_laws.specs.BytesLaws.{KeepsWritten};
 ghost use Rattle.qc_laws.specs.CidLaws.{HasNewIds, KeepsLength, TellsIssued, UsesPeers};
 ghost use Rattle.qc_laws.specs.CryptoLaws.{KeepsBytes};
 ghost use Rattle.qc_laws.specs.EndLaws.{Ends};
-ghost use Rattle.qc_conn.specs.Stored.{stored, tokens_in};
+ghost use Rattle.qc_conn.specs.Stored.{StoresMore, StoresPart, StoresStep, stored, tokens_in};
 ghost use Rattle.qc_laws.specs.EventLaws.{EachTells, OnlyDoneWaits, TellsOnce, untold_of};
 ghost use Rattle.qc_laws.specs.InitialLaws.{LeavesInitial};
 ghost use Rattle.qc_laws.specs.KeyLaws.{KeysHold};
@@ -23,6 +23,8 @@ ghost use Rattle.qc_laws.specs.PieceLaws.{EachTellsPieces};
 ghost use Rattle.qc_state.specs.Headline.{deeds_of, EachRises, EachAdmitted, EachAcksKnown, Harmless, LifeRises, OnlyCloses, LosesOnce};
 ghost use Rattle.qc_laws.specs.PostLaws.{FoldsPosts, HasNewDatagrams, SealsSent, TakesTrace};
 ghost use Rattle.qc_laws.specs.ReadLaws.{HasNewStreams, ReadsTrace};
+ghost use Rattle.qc_laws.specs.ReasonLaws.{EachCauses};
+ghost use Rattle.qc_laws.specs.RetryLaws.{EachMismatch, HasInitialKeys, TakesOneRetry};
 ghost use Rattle.qc_laws.specs.WriteLaws.{SealsWritten};
 ghost use Rattle.qc_laws.specs.SealLaws.{EachSealsAnswer};
 ghost use Rattle.qc_laws.specs.RecoveryLaws.{EachSettlesOnce, Recovers};
@@ -39,7 +41,7 @@ use crate::steps::time;
 use qc_base::{Instant, StreamId};
 use qc_cids::GiveRefusal;
 use qc_config::TokenStore;
-use qc_state::{Input, Means, Suite, Trace};
+use qc_state::{Input, Means, Step, Suite, Trace};
 use std::alloc::{AllocError, Global};
 
 /// What is wrong with a call that its input asks for.
@@ -109,14 +111,50 @@ pub struct DriveError {
     pub kind: DriveKind,
 }
 
+/// A step is put at the trace's end, and its tokens into the store. After want of memory the trace is as before, the connection is marked as
+/// failed, and the store may have the first tokens.
+fn keep_step<U: Suite, G: TokenStore>(
+    connection: &mut Connection<U>,
+    alloc: Global,
+    step: Step,
+    trace: &mut Trace,
+    store: &mut G,
+) -> Result<(), AllocError>
+    ensures core { OnOk result (connection.new.core ≡ connection.old.core) }
+    ensures alive { OnOk result (connection.new.failed ≡ connection.old.failed) }
+    ensures mark { OnErr result (connection.new.failed ≡ true) }
+    ensures trace { OnOk result (trace.new ≡ trace.old ++ step ∷ []) }
+    ensures kept { OnErr result (trace.new ≡ trace.old) }
+    ensures count { OnOk result (connection.new.steps ≡ counted connection.old.steps 1) }
+    ensures uncounted { OnErr result (connection.new.steps ≡ connection.old.steps) }
+    ensures name { connection.new.name ≡ connection.old.name }
+    ensures store { OnOk result (store.new ≡ stored G.inserted connection.old.name (tokens_in step.did) store.old) }
+    ensures store_part { OnErr result (StoresMore G.inserted connection.old.name store.old store.new) }
+{
+    match connection.store_tokens(alloc, &step.did, store) {
+        Ok(()) => match trace.push(step) {
+            Ok(()) => {
+                connection.count();
+                Ok(())
+            }
+            Err(e) => {
+                connection.fail();
+                Err(e)
+            }
+        },
+        Err(e) => Err(e),
+    }
+}
+
 /// One input more: its step is put at the trace's end. After want of memory the trace is as before, and the connection
 /// is marked as failed.
-fn add_step<U: Suite>(
+fn add_step<U: Suite, G: TokenStore>(
     connection: &mut Connection<U>,
     alloc: Global,
     at: u64,
     input: &Input,
     trace: &mut Trace,
+    store: &mut G,
 ) -> Result<(), AllocError>
     requires alive { connection.old.failed ≡ false }
     requires forward { connection.old.core.timers.greatest ≤ time_of input.now }
@@ -128,17 +166,14 @@ fn add_step<U: Suite>(
     ensures kept { OnErr result (trace.new ≡ trace.old) }
     ensures count { OnOk result (connection.new.steps ≡ counted connection.old.steps 1) }
     ensures uncounted { OnErr result (connection.new.steps ≡ connection.old.steps) }
+    ensures name { connection.new.name ≡ connection.old.name }
+    ensures store { OnOk result (StoresStep G.inserted connection.old.name trace.old trace.new store.old store.new) }
+    ensures store_part { OnErr result (StoresMore G.inserted connection.old.name store.old store.new) }
 {
     match connection.call(alloc, at, input) {
-        Ok(step) => match trace.push(step) {
-            Ok(()) => {
-                connection.count();
-                Ok(())
-            }
-            Err(e) => {
-                connection.fail();
-                Err(e)
-            }
+        Ok(step) => match keep_step(connection, alloc, step, trace, store) {
+            Ok(()) => Ok(()),
+            Err(e) => Err(e),
         },
         Err(_) => Err(AllocError),
     }
@@ -221,10 +256,11 @@ fn refusal<U: Suite>(connection: &Connection<U>, at: u64, input: &Input) -> Opti
 }
 
 /// Hands the inputs to a connection that hasn't failed.
-fn drive_all<U: Suite>(
+fn drive_all<U: Suite, G: TokenStore>(
     connection: &mut Connection<U>,
     alloc: Global,
     inputs: &[Input],
+    store: &mut G,
 ) -> Result<Trace, DriveError>
     requires alive { connection.old.failed ≡ false }
     ensures run { IfOk result (λ trace. Run ⟦<U as Means>⟧.meaning 0 (ideal U.Random.stream connection.old.core) inputs.now trace (ideal U.Random.stream connection.new.core)) }
@@ -236,6 +272,8 @@ fn drive_all<U: Suite>(
     ensures failed { IfErr result (λ e. e.kind ≢ DriveKind.Failed) }
     ensures count { IfOk result (λ trace. connection.new.steps ≡ counted connection.old.steps (length trace)) }
     ensures count_part { IfErr result (λ e. (connection.new.steps ≡ counted connection.old.steps (length e.done)) × (length e.done < length inputs.now)) }
+    ensures store { IfOk result (λ trace. store.new ≡ stored G.inserted connection.old.name (tokens_in (deeds_of trace)) store.old) }
+    ensures store_part { IfErr result (λ e. StoresPart G.inserted connection.old.name e.kind e.done store.old store.new) }
 {
     let _before = connection.steps();
     let mut trace = Trace::new(alloc);
@@ -244,7 +282,7 @@ fn drive_all<U: Suite>(
         if let Some(kind) = refusal(connection, at, input) {
             return Err(DriveError { done: trace, kind });
         }
-        match add_step(connection, alloc, at, input, &mut trace) {
+        match add_step(connection, alloc, at, input, &mut trace, store) {
             Ok(()) => {}
             Err(_) => {
                 return Err(DriveError {
@@ -337,6 +375,18 @@ pub fn drive<U: Suite, G: TokenStore>(
     ensures epochs { AreLast (ideal U.Random.stream connection.old.core) → IfOk result (λ trace. KeepsEpochs trace (ideal U.Random.stream connection.old.core) (ideal U.Random.stream connection.new.core)) }
     ensures last { AreLast (ideal U.Random.stream connection.old.core) → OnOk result (AreLast (ideal U.Random.stream connection.new.core)) }
 
+    // A Retry is taken only by a client that wasn't answered: at most one, and none once a packet was accepted. Initial keys are those that the
+    // session gives of the destination id of the client's first packets, or of the source id of that Retry. And VersionMismatch ends the
+    // connection only behind a list of versions without this end's.
+    ensures retry { IfOk result (λ trace. TakesOneRetry (deeds_of trace) (ideal U.Random.stream connection.old.core) (ideal U.Random.stream connection.new.core)) }
+    ensures initial_keys { HasInitialKeys ⟦<U as Means>⟧.meaning (ideal U.Random.stream connection.old.core) → OnOk result (HasInitialKeys ⟦<U as Means>⟧.meaning (ideal U.Random.stream connection.new.core)) }
+    ensures mismatch { IfOk result (λ trace. EachMismatch trace) }
+    ensures mismatch_part { IfErr result (λ e. EachMismatch e.done) }
+
+    // This end ends the connection with KEY_UPDATE_ERROR only right behind a packet that shows an update which its sender wasn't allowed to make,
+    // or where the session refuses with that code the bytes that it was just given, or the peer's parameters.
+    ensures update_errors { IfOk result (λ trace. EachCauses ⟦<U as Means>⟧.meaning 0 (ideal U.Random.stream connection.old.core) inputs.now trace (ideal U.Random.stream connection.new.core)) }
+
     // The session is given the bytes of each space's CRYPTO stream in order, each once: from a new connection on the front of what came.
     ensures streams { (id : SpaceId) → IfOk result (λ trace. GivesStream id (deeds_of trace) (ideal U.Random.stream connection.old.core) (ideal U.Random.stream connection.new.core)) }
 
@@ -399,16 +449,16 @@ pub fn drive<U: Suite, G: TokenStore>(
     ensures cause { IfErr result (λ e. e.kind ≡ DriveKind.Failed → connection.old.failed ≡ true) }
     ensures memory { IfErr result (λ e. e.kind ≡ DriveKind.OutOfMemory → connection.new.failed ≡ true) }
 
-    // The store has what it was given, one token after another; of whichever server, since none is given so far.
-    ensures store { IfOk result (λ trace. (name : List ℕ) → store.new ≡ stored G.inserted name (tokens_in (deeds_of trace)) store.old) }
-    ensures store_part { IfErr result (λ e. (name : List ℕ) → store.new ≡ stored G.inserted name (tokens_in (deeds_of e.done)) store.old) }
+    // The store has the tokens that it was given, in order, under the server's name, none left out and none made up; of the input that met
+    // want of memory it may have some.
+    ensures store { IfOk result (λ trace. store.new ≡ stored G.inserted connection.old.name (tokens_in (deeds_of trace)) store.old) }
+    ensures store_part { IfErr result (λ e. StoresPart G.inserted connection.old.name e.kind e.done store.old store.new) }
 {
-    let _store = store;
     if connection.is_failed() {
         return Err(DriveError {
             done: Trace::new(alloc),
             kind: DriveKind::Failed,
         });
     }
-    drive_all(connection, alloc, inputs)
+    drive_all(connection, alloc, inputs, store)
 }

@@ -8,6 +8,7 @@ mod driving;
 mod laws;
 mod parts;
 mod steps;
+mod storing;
 pub mod text;
 mod views;
 

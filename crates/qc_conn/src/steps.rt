@@ -93,15 +93,15 @@ pub(crate) fn core_first<U: Suite>(
     Ok(taken)
 }
 
-/// An endpoint hands over what came, whose deeds no one keeps.
+/// An endpoint hands over what came. Answers what was done.
 pub(crate) fn core_event<U: Suite>(
     core: &mut Core<U>,
     alloc: Global,
     event: ConnectionEvent,
-) -> Result<(), AllocError>
+) -> Result<Dids, AllocError>
     requires some { LeavesBytes event }
     requires given { GivesRight event core.old.lower.ids }
-    ensures { OnOk result ((ideal U.Random.stream core.new) ≡ (handed_after ⟦<U as Means>⟧.meaning event (began (ideal U.Random.stream core.old) (time_of_event event))).state) }
+    ensures { IfOk result (λ did. (held U.Random.stream core.new did) ≡ handed_after ⟦<U as Means>⟧.meaning event (began (ideal U.Random.stream core.old) (time_of_event event))) }
 {
     let mut did = Dids::new(alloc);
     match event {
@@ -119,12 +119,12 @@ pub(crate) fn core_event<U: Suite>(
             };
             core.clock(now);
             qc_receive::event(core, alloc, &mut did, &coming, first_decode, remaining)?;
-            Ok(())
+            Ok(did)
         }
         ConnectionEvent::NewIdentifiers { ids, now } => {
             core.clock(now);
             core.issue(now, ids.as_slice())?;
-            Ok(())
+            Ok(did)
         }
     }
 }

@@ -154,7 +154,7 @@ pub(crate) fn client_at(alloc: Global, number: u64, failed: bool) -> Option<Box<
     let mut core = core(alloc)?;
     core.numbers.spaces.initial.next = number;
     core.lower.streams.failed = failed;
-    Box::new(alloc, Connection::from_core(core)).ok()
+    Box::new(alloc, Connection::from_core(alloc, core)).ok()
 }
 
 /// How many bytes a transmit at this time seals; None where it seals nothing.

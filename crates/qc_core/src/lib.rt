@@ -10,6 +10,7 @@ mod moves;
 mod offers;
 mod packets;
 mod recovering;
+mod renewing;
 pub mod state;
 pub mod stopping;
 mod streams;

@@ -26,11 +26,11 @@ use Rattle.qc_state.specs.Acks.{is_ack}
 use Rattle.qc_state.specs.Timers.{ack_delay_most, has_come, timers_acking, timers_holding, timers_sealed}
 use Rattle.qc_laws.proofs.CryptoPlaces.{bundled_spaces}
 use Rattle.qc_state.specs.Spaces.{is_space, space_of, with_space}
-use Rattle.qc_state.specs.Moves.{Accept, Ack, Ask, Begin, Confirm, Fire, Forget, Move, Owe, Release, Seal, Shut, Take, Write, waiting_move}
+use Rattle.qc_state.specs.Moves.{Accept, Ack, Ask, Begin, Confirm, Fire, Forget, Move, Owe, Release, Seal, Shut, Take, Write, waiting_move, Renew}
 use Rattle.qc_state.specs.Offers.{packet_begun}
 use Rattle.qc_state.specs.Types.{Types}
 use Rattle.qc_state.specs.View.{View}
-use Rattle.qc_state.specs.Waiting.{acked_in, again, all_again, all_confirmed, bundle_next, close_begun, confirmed, crypto_more, crypto_written, done_asked, fired_in, frames_again, lost_in, marks_begun, nothing_left, packet_told, packets_acked, packets_lost, ping_asked, probe_spent, probes_added, space_left, waiting_without, without, without_all}
+use Rattle.qc_state.specs.Waiting.{acked_in, again, all_again, all_confirmed, bundle_next, close_begun, confirmed, crypto_more, crypto_written, done_asked, fired_in, frames_again, lost_in, marks_begun, nothing_left, packet_told, packets_acked, packets_lost, ping_asked, probe_spent, probes_added, space_left, waiting_without, without, without_all, hello_again, bytes_again}
 use Rattle.qc_state.proofs.Probed.{begun_holds}
 
 pub or_false : (b : Bool) → (b || false) ≡ b
@@ -277,13 +277,14 @@ module _ {t : Types} where
   KeepsMarks _ = Unit {0}
 
   pub kept_marks : (x : Move t) (s : View t) → KeepsMarks x → data_marks (waiting_move x s).spaces ≡ data_marks s.waiting.spaces
-  unfolding waiting_move ping_asked space_left nothing_left crypto_written done_asked close_begun
+  unfolding waiting_move ping_asked space_left nothing_left crypto_written done_asked close_begun hello_again bytes_again
   kept_marks (Take id fs) s k = absurd k
   kept_marks (Seal time form n size fs) s k = absurd k
   kept_marks (Accept time id n e g v) s k = absurd k
   kept_marks Release s k = absurd k
   kept_marks (Ask space) s k = put_marks space s.waiting.spaces (record (space_of s.waiting.spaces space) { ping = true }) refl
   kept_marks (Forget space) s k = put_marks space s.waiting.spaces (nothing_left (space_of s.waiting.spaces space)) refl
+  kept_marks (Renew time cid token keys) s k = put_marks Initial s.waiting.spaces (bytes_again (space_of s.waiting.spaces Initial)) refl
   kept_marks (Ack space n after) s k = settled_marks s.waiting space after.acked after.lost
   kept_marks (Fire after) s k = fired_marks s.waiting after.fired
   kept_marks (Begin space opens) s k = begun_marks space opens s

@@ -24,7 +24,7 @@ use Rattle.qc_state.specs.Keys.{epoch_in}
 use Rattle.qc_state.specs.Forms.{number_space, is_early}
 use Rattle.qc_state.specs.Headline.{deeds_of, KnownBehind, AcksOnly, SealsKnown, AcksKnown, IsKept, EachAcksKnown}
 use Rattle.qc_state.specs.Life.{is_open}
-use Rattle.qc_state.specs.Moves.{Probe, Move, Clock, Ask, Take, Seal, Forget, Enter, Expect, Fail, Accept, Fix, Hear, Ack, Fire, Arm, Pace, Release, Begin, Skip, Come, Read, Write, Ready, Token, Learn, Want, Confirm, Establish, Tell, PeerClosesToo, PeerCloses, Owe, Shut, Raise, Give, Say, ReportReady, ReportConnected, ReportLost, ReportNotice, ReportNotices, ReportDrained, accepts, state_move, move_to, deeds_move, waiting_move, numbers_move, keys_move, life_move, MayMove, IsTold, told, arrival_of, Finish, Hand, Call, ReportStream, ReportStreams, told_to_streams, Post, ReportHeard, ReportAllHeard, Insert, Switch, Retire, Issue, Outlive, Hold, Spend, Discard, Unseal, Update}
+use Rattle.qc_state.specs.Moves.{Probe, Move, Clock, Ask, Take, Seal, Forget, Enter, Expect, Fail, Accept, Fix, Hear, Ack, Fire, Arm, Pace, Release, Begin, Skip, Come, Read, Write, Ready, Token, Learn, Want, Confirm, Establish, Tell, PeerClosesToo, PeerCloses, Owe, Shut, Raise, Give, Say, ReportReady, ReportConnected, ReportLost, ReportNotice, ReportNotices, ReportDrained, accepts, state_move, move_to, deeds_move, waiting_move, numbers_move, keys_move, life_move, MayMove, IsTold, told, arrival_of, Finish, Hand, Call, ReportStream, ReportStreams, told_to_streams, Post, ReportHeard, ReportAllHeard, Insert, Switch, Retire, Issue, Outlive, Hold, Spend, Discard, Unseal, Update, Renew}
 use Rattle.qc_state.specs.Numbers.{next_number}
 use Rattle.qc_state.specs.Offers.{packet_begun}
 use Rattle.qc_state.proofs.Probed.{begun_holds}
@@ -36,7 +36,7 @@ use Rattle.qc_state.specs.Receiving.{datagram_after}
 use Rattle.qc_state.specs.Timeouts.{timeout_after}
 use Rattle.qc_state.specs.Types.{Types, Meaning}
 use Rattle.qc_state.specs.View.{View, At}
-use Rattle.qc_state.specs.Waiting.{done_asked, ping_asked, waiting_without, close_begun, packet_told, lost_in, packets_lost, acked_in, packets_acked, fired_in, probes_added, probe_spent, frames_again, all_again, came_in, packet_came, crypto_written, nothing_left, space_left, released, ack_released, bundle_next}
+use Rattle.qc_state.specs.Waiting.{done_asked, ping_asked, waiting_without, close_begun, packet_told, lost_in, packets_lost, acked_in, packets_acked, fired_in, probes_added, probe_spent, frames_again, all_again, came_in, packet_came, crypto_written, nothing_left, space_left, released, ack_released, bundle_next, bytes_again, hello_again}
 use Rattle.qc_laws.proofs.AcksKnown.{acked_had, all_again_keeps, lost_keeps, received_has, KnownSince, known_more, since_more, known_append, since_append, only_more, without_all_keeps, carries_known}
 use Rattle.qc_recovery.specs.declared.calls.Fired.{Fired}
 use Rattle.qc_recovery.specs.declared.calls.Fired.TheVariants as fired
@@ -216,7 +216,7 @@ module _ {t : Types} where
 
   -- over each move
   pub knows_move : (id : SpaceId) (x : Move t) (a : At t) → MayMove x a.state → IsKnowing x a.state → Knows id a (move_to x a)
-  unfolding MayMove deeds_move waiting_move ping_asked waiting_without crypto_written done_asked space_left nothing_left close_begun
+  unfolding MayMove deeds_move waiting_move ping_asked waiting_without crypto_written done_asked space_left nothing_left close_begun hello_again bytes_again
   knows_move id (Clock time) a h k = absurd h
   knows_move id (Ask space) a h k = silent_knows id (Ask space) a refl (same_kept id space a.state.waiting _ refl)
   knows_move id (Take space fs) a h k = silent_knows id (Take space fs) a refl (same_kept id space a.state.waiting _ (without_all_keeps (space_of a.state.waiting.spaces space) fs))
@@ -227,6 +227,7 @@ module _ {t : Types} where
   knows_move id (Enter space n v) a h k = deed_knows id (Enter space n v) _ a refl tt (λ n m. inr m)
   knows_move id (Expect token) a h k = silent_knows id (Expect token) a refl (λ n m. m)
   knows_move id Fail a h k = silent_knows id Fail a refl (λ n m. m)
+  knows_move id (Renew time cid token keys) a h k = deed_knows id (Renew time cid token keys) _ a refl tt (λ n m. inr (same_kept id Initial a.state.waiting _ refl n m))
   knows_move id (Unseal time n which fresh session) a h k = silent_knows id (Unseal time n which fresh session) a refl (λ n m. m)
   knows_move id (Update fresh session) a h k = silent_knows id (Update fresh session) a refl (λ n m. m)
   knows_move id Discard a h k = silent_knows id Discard a refl (λ n m. m)
@@ -290,6 +291,7 @@ module _ {t : Types} where
   received_knows (Enter id n v) s r = tt
   received_knows (Expect token) s r = tt
   received_knows Fail s r = tt
+  received_knows (Renew time cid token keys) s r = tt
   received_knows (Unseal time n which fresh session) s r = tt
   received_knows (Accept time id n e g v) s r = r
   received_knows (Fix cid) s r = tt

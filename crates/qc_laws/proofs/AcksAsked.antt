@@ -1,10 +1,12 @@
 -- Over each step an ACK of 1-RTT packets is asked for behind a packet that elicits one, until one is sealed; and one that is owed stays owed until
 -- then.
-use Rattle.std.proofs.Common.{◌≡◌, ◌⊎◌, inl, inr, ℕ, ◌+◌, ◌≤◌, List, [], ◌∷◌, ◌++◌, length, length-append, refl, ap, sym, ◌∙◌, subst, Bool, true, false, Option, Some, None, if◌then◌else◌, append_assoc, append-nil, arith}
+use Rattle.qc_state.specs.Recovering.{loss_time}
+use Rattle.qc_header.specs.declared.protected.ProtectedHeader.{ProtectedHeader}
+use Rattle.std.proofs.Common.{◌≡◌, ◌⊎◌, inl, inr, ℕ, ◌+◌, ◌≤◌, List, [], ◌∷◌, ◌++◌, length, length-append, refl, ap, sym, ◌∙◌, subst, Bool, true, false, Option, Some, None, if◌then◌else◌, append_assoc, append-nil, arith, drop}
 use Rattle.std.specs.Prelude.{◌&&◌, ◌||◌, not, nat_lt, Ok, Err}
 use Rattle.std.specs.List.{list_any}
 use Rattle.std.proofs.lemmas.List.Folds.{list_any-append}
-use Rattle.qc_base.specs.declared.side.Side.TheVariants.{Server}
+use Rattle.qc_base.specs.declared.side.Side.TheVariants.{Server, Client}
 use Rattle.qc_base.specs.declared.side.SpaceId.{SpaceId}
 use Rattle.qc_base.specs.declared.side.SpaceId.TheVariants.{Initial, Handshake, «Data»}
 use Rattle.qc_base.specs.declared.transport_error.TransportError.{TransportError}
@@ -13,6 +15,7 @@ use Rattle.qc_frame.specs.Frame.{FrameValue}
 use Rattle.qc_frame.specs.Payload.{items_of}
 use Rattle.qc_header.specs.HeaderGrammar.{DatagramItem}
 use Rattle.qc_header.specs.Piece.{Piece, space_of}
+use Rattle.qc_header.specs.declared.protected.ProtectedHeader.TheVariants as protected
 use Rattle.qc_path.specs.Acks.{AckMarks, acks_received, marks_expired}
 use Rattle.qc_path.specs.Arrived.{arrived}
 use Rattle.qc_rings.specs.declared.which.Which.{Which}
@@ -37,20 +40,20 @@ use Rattle.qc_state.specs.declared.waiting.Waiting.{Waiting}
 use Rattle.qc_state.specs.Acks.{is_ack}
 use Rattle.qc_state.specs.Forms.{is_early, number_space}
 use Rattle.qc_state.specs.Headline.{is_datagram}
-use Rattle.qc_state.specs.Keys.{epoch_in, fails_too_often}
+use Rattle.qc_state.specs.Keys.{epoch_in, fails_too_often, new_keys}
 use Rattle.qc_state.specs.Life.{is_open, is_over}
-use Rattle.qc_state.specs.Moves.{Accept, Arm, Ask, Begin, Call, Discard, Enter, Expect, Fail, Finish, Fire, Forget, Give, Hold, Issue, MayMove, Move, Outlive, Owe, Pace, PeerClosesToo, Post, Probe, Raise, Release, Say, Seal, Shut, Skip, Spend, Take, Tell, Unseal, Want, arrival_of, deeds_move, keys_move, move_to, numbers_move, state_move, waiting_move, told, Update}
+use Rattle.qc_state.specs.Moves.{Accept, Arm, Ask, Begin, Call, Discard, Enter, Expect, Fail, Finish, Fire, Forget, Give, Hold, Issue, MayMove, Move, Outlive, Owe, Pace, PeerClosesToo, Post, Probe, Raise, Release, Say, Seal, Shut, Skip, Spend, Take, Tell, Unseal, Want, arrival_of, deeds_move, keys_move, move_to, numbers_move, state_move, waiting_move, told, Update, PeerCloses, Renew, armed_after, armed_with}
 use Rattle.qc_state.specs.Numbers.{came_in, next_number}
 use Rattle.qc_state.specs.Opening.{opening_of}
 use Rattle.qc_state.specs.Paths.{is_blocked}
-use Rattle.qc_state.specs.Receiving.{accepted_after, admitted_after, cut_of, datagram_after, failed_after, fixed_after, is_close_item, is_eliciting_item, opening_after, payload_after, piece_after, piece_told, pieces_after, read_for_close, received_after, signs_of, verdict_after}
+use Rattle.qc_state.specs.Receiving.{accepted_after, admitted_after, cut_of, datagram_after, failed_after, fixed_after, is_close_item, is_eliciting_item, opening_after, payload_after, piece_after, piece_told, pieces_after, read_for_close, received_after, signs_of, verdict_after, formed_after, left_after, renewed_after, retried_after, unnumbered_after}
 use Rattle.qc_state.specs.Run.{IsAllowed, IsStep, began, called, close_after, datagram_limit, input_after, reported, step_after, time_of}
 use Rattle.qc_state.specs.Sending.{Choice, packet_size}
 use Rattle.qc_state.specs.Spaces.{is_space}
-use Rattle.qc_state.specs.Stopping.{key_limit_error, killed_after, stopped_after, update_error, violation_at}
+use Rattle.qc_state.specs.Stopping.{key_limit_error, killed_after, stopped_after, update_error, violation_at, given_after}
 use Rattle.qc_state.specs.Types.{Types, Meaning}
 use Rattle.qc_state.specs.Updating.{fresh_by, session_by, unsealed_after, fresh_now}
-use Rattle.qc_state.specs.Verdicts.{first_row, verdict_of}
+use Rattle.qc_state.specs.Verdicts.{first_row, verdict_of, ids_end, retry_token, unnumbered_verdict}
 use Rattle.qc_state.specs.View.{View, At, at}
 use Rattle.qc_state.specs.Waiting.{ack_released, packet_came}
 use Rattle.qc_state.specs.Waiting as waiting
@@ -63,7 +66,7 @@ use Rattle.qc_state.proofs.Telling.{told_appends}
 use Rattle.qc_state.proofs.Transmitted.{IsSending, holds_transmit}
 use Rattle.qc_state.proofs.Updates.{holds_updated}
 use Rattle.qc_laws.specs.AckLaws.{AsksStep, accepts_data, acks_data, asks_ack, is_asked, marks_of, one_asks, opened_payload}
-use Rattle.qc_laws.specs.PieceLaws.{TellsDatagram, TellsPiece, gifts_by, opening_deed, pieces_in}
+use Rattle.qc_laws.specs.PieceLaws.{TellsDatagram, TellsPiece, gifts_by, opening_deed, pieces_in, formed_deed, unnumbered_deed}
 use Rattle.qc_laws.specs.StreamLaws.{is_of}
 use Rattle.qc_laws.proofs.AckMarks.{IsTaken, KeepsMarks, data_marks, kept_marks, or_false, received_count, received_owed, sealed_exact}
 use Rattle.qc_laws.proofs.Gifts.{pieces_append}
@@ -277,6 +280,8 @@ module _ {t : Types} where
   asks_verdict m coming id spin source token number payload verdict.Failure a is = asks_still a a refl
   asks_verdict m coming id spin source token number payload verdict.BadBits a is = asks_still a a refl
   asks_verdict m coming id spin source token number payload verdict.BadUpdate a is = asks_still a a refl
+  asks_verdict m coming id spin source token number payload verdict.RetryTaken a is = asks_still a a refl
+  asks_verdict m coming id spin source token number payload verdict.Versions a is = asks_still a a refl
   asks_verdict m coming id spin source token number payload verdict.Seen a is = asks_still a _ (still (Tell (did.Piece (Some id) (Some number) verdict.Seen)) a tt)
   asks_verdict m coming id spin source token number payload verdict.ReadForClose a is = asks_still a _ (still_read id number payload a)
   asks_verdict m coming id spin source token number payload verdict.NumberOnly a is = asks_still a _ (still (Enter id number verdict.NumberOnly) a tt)
@@ -331,15 +336,56 @@ module _ {t : Types} where
   asks_opening m coming (Some id) (Opened source token spin which number payload) a = asks_opened m coming id source token spin which number payload a
   asks_opening m coming None (Opened source token spin which number payload) a = asks_still a _ (still (Tell (did.Piece None None verdict.Ignored)) a tt)
 
-  asks_by : (m : Meaning t) (coming : Coming) (space : Option SpaceId) (o : Opening) (a : At t) (b : Bool) →
-      Asks (accepts_data (if b then did.Piece space None verdict.Ignored else opening_deed a.state space o) && list_any is_eliciting_item (items_of (opened_payload o))) a
-      (if b then piece_told space None verdict.Ignored a else opening_after m coming space o a)
-  asks_by m coming space o a true = asks_still a _ (still (Tell (did.Piece space None verdict.Ignored)) a tt)
-  asks_by m coming space o a false = asks_opening m coming space o a
+  -- a Retry that is taken
+  still_renewed : (m : Meaning t) (time : ℕ) (cid token : List ℕ) (a : At t) → Still a (renewed_after m time cid token a)
+  unfolding renewed_after armed_after armed_with
+  still_renewed m time cid token a =
+      let renew : Move t = Renew time cid token (new_keys m.seal_limit m.failure_limit (m.initial a.state.lower.session cid Client)) in
+      let b : At t = move_to renew a in
+      let arm : Move t = Arm (loss_time b.state (is_blocked b.state.paths) time) in
+      still_next a b (move_to arm b) (still renew a tt) (still arm b tt)
+
+  still_retried : (m : Meaning t) (time : ℕ) (header : ProtectedHeader) (bytes : List ℕ) (a : At t) → Still a (retried_after m time header bytes a)
+  still_retried m time (protected.Retry dst_cid src_cid version) bytes a = still_renewed m time src_cid (retry_token (drop (ids_end dst_cid src_cid) bytes)) a
+  still_retried m time (protected.Initial dst_cid src_cid token_start token_len version) bytes a = refl
+  still_retried m time (protected.Long ty dst_cid src_cid version) bytes a = refl
+  still_retried m time (protected.Short spin dst_cid) bytes a = refl
+  still_retried m time (protected.VersionNegotiate random src_cid dst_cid) bytes a = refl
+
+  -- a list of versions without this end's
+  still_left : (time : ℕ) (why : ConnectionError) (a : At t) (b : Bool) → Still a (if b then given_after why (move_to (PeerCloses time) a) else a)
+  still_left time why a true =
+      let b : At t = move_to (PeerCloses time) a in
+      still_next a b (given_after why b) (still (PeerCloses time) a tt) (holds_given Still still_here still_next still_ending why b)
+  still_left time why a false = refl
+
+  still_listed : (time : ℕ) (a : At t) → Still a (left_after time lost.VersionMismatch (piece_told None None verdict.Versions a))
+  unfolding left_after
+  still_listed time a =
+      let d : Did = did.Piece None None verdict.Versions in
+      let b : At t = move_to (Tell d) a in
+      still_next a b (left_after time lost.VersionMismatch b) (still (Tell d) a tt) (still_left time lost.VersionMismatch b (is_open b.state.life.state))
+
+  -- a packet without a number
+  asks_unnumbered : (m : Meaning t) (time : ℕ) (p : Piece) (v : Verdict) (e : Bool) (a : At t) → Asks (accepts_data (unnumbered_deed v) && e) a (unnumbered_after m time p v a)
+  asks_unnumbered m time p verdict.RetryTaken e a = asks_still a _ (still_retried m time p.header p.bytes a)
+  asks_unnumbered m time p verdict.Versions e a = asks_still a _ (still_listed time a)
+  asks_unnumbered m time p _ e a = asks_still a _ (still (Tell (did.Piece None None verdict.Ignored)) a tt)
+
+  asks_formed : (m : Meaning t) (coming : Coming) (space : Option SpaceId) (p : Piece) (a : At t) →
+      Asks (accepts_data (formed_deed m a.state space p) && list_any is_eliciting_item (items_of (opened_payload (opening_of m a.state p)))) a (formed_after m coming space p a)
+  asks_formed m coming None p a = asks_unnumbered m coming.time p (unnumbered_verdict m a.state p) (list_any is_eliciting_item (items_of (opened_payload (opening_of m a.state p)))) a
+  asks_formed m coming (Some id) p a = asks_opening m coming (Some id) (opening_of m a.state p) a
+
+  asks_by : (m : Meaning t) (coming : Coming) (space : Option SpaceId) (p : Piece) (a : At t) (b : Bool) →
+      Asks (accepts_data (if b then did.Piece space None verdict.Ignored else formed_deed m a.state space p) && list_any is_eliciting_item (items_of (opened_payload (opening_of m a.state p)))) a
+      (if b then piece_told space None verdict.Ignored a else formed_after m coming space p a)
+  asks_by m coming space p a true = asks_still a _ (still (Tell (did.Piece space None verdict.Ignored)) a tt)
+  asks_by m coming space p a false = asks_formed m coming space p a
 
   asks_piece : (m : Meaning t) (coming : Coming) (p : Piece) (a : At t) → Asks (asks_ack m a.state p) a (piece_after m coming p a)
   unfolding piece_after
-  asks_piece m coming p a = asks_by m coming (space_of p.header) (opening_of m a.state p) a (is_over a.state.life.state)
+  asks_piece m coming p a = asks_by m coming (space_of p.header) p a (is_over a.state.life.state)
 
   -- the packets of a datagram
   asks_pieces : (m : Meaning t) (coming : Coming) (items : List DatagramItem) (a : At t) → Asks (one_asks m coming items a) a (pieces_after m coming items a)

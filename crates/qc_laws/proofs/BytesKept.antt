@@ -33,7 +33,7 @@ use Rattle.qc_state.specs.Forms.{number_space}
 use Rattle.qc_state.specs.Headline.{deeds_of}
 use Rattle.qc_state.specs.Life.{is_open}
 use Rattle.qc_state.specs.Lower.{datagrams_stepped, flight_dropped, frames_sealed, ids_stepped, packet_flown, packets_settled, session_wrote, streams_stepped, timer_fired}
-use Rattle.qc_state.specs.Moves.{Ack, Begin, Call, Clock, Fire, Forget, Hand, MayMove, Move, ReportAllHeard, ReportConnected, ReportDrained, ReportHeard, ReportLost, ReportNotice, ReportNotices, ReportReady, ReportStream, ReportStreams, Seal, Take, Write, life_move, lower_move, state_move, waiting_move}
+use Rattle.qc_state.specs.Moves.{Ack, Begin, Call, Clock, Fire, Forget, Hand, MayMove, Move, ReportAllHeard, ReportConnected, ReportDrained, ReportHeard, ReportLost, ReportNotice, ReportNotices, ReportReady, ReportStream, ReportStreams, Seal, Take, Write, life_move, lower_move, state_move, waiting_move, Renew}
 use Rattle.qc_state.specs.Numbers.{next_number}
 use Rattle.qc_state.specs.Offers.{begun_steps}
 use Rattle.qc_state.specs.Recovering.{fired_by, settled_by}
@@ -69,6 +69,7 @@ use Rattle.qc_laws.proofs.StreamStands.{Stands, byte_found, flown_on, new_stands
 use Rattle.qc_laws.proofs.StreamsMade.{frame_all}
 use Rattle.qc_laws.proofs.StreamsSealed.{acked_all, begun_all, fired_all, settled_unsealed}
 use Rattle.qc_laws.proofs.WriteSteps.{calls_write}
+use Rattle.qc_state.specs.declared.keys.SpaceKeys.{SpaceKeys}
 
 -- ---- spaces
 
@@ -203,6 +204,11 @@ module _ {t : Types} where
         ∙ ap (λ (b : Bool). if b then (space_dropped (recovery.space_of space s.lower.recovery)).flight else flight_of s) (rank_other «Data» space (apart_back space known))) ∙ h),
   )
 
+  -- the Initial space begins anew
+  renew_flies : (time : ℕ) (cid token : List ℕ) (keys : SpaceKeys t.H t.P) (s : View t) → Flies [] [] s (state_move (Renew time cid token keys) s)
+  unfolding state_move lower_move life_move flight_dropped dropped_after ids_stepped
+  renew_flies time cid token keys s = λ opened. (opened, λ id o h. or_left _ _ h)
+
   -- the loss timer fires
   fire_flies : (m : Meaning t) (r : FiredAfter t.C) (s : View t) → IsFiredBy m r s → Flies (fired_steps r.fired) [] s (state_move (Fire r) s)
   unfolding state_move lower_move life_move timer_fired streams_stepped datagrams_stepped ids_stepped fired_by
@@ -233,6 +239,7 @@ module _ {t : Types} where
       by (Take space fs) k c u may = absurd k
       by (Seal time form n size fs) k c u may = absurd k
       by (Forget space) k c u may = forget_flies space s k
+      by (Renew time cid token keys) k c u may = renew_flies time cid token keys s
       by (Ack space n r) k c u may = absurd u
       by (Fire r) k c u may = fire_flies m r s k
       by (Begin space opens) k c u may = still (Begin space opens) k c u may (ap (λ (l : Lower t.S). l.recovery) (begun_streams space opens s))

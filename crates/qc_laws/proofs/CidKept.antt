@@ -95,6 +95,7 @@ told_none : (d : Did) → IsElsewhere d → given_to_ids (d ∷ []) ≡ []
 told_none (did.Gave layer.Session body) h = refl
 told_none (did.Gave layer.Recovery body) h = refl
 told_none (did.Gave layer.Life body) h = refl
+told_none (did.Gave layer.Store body) h = refl
 told_none (did.Gave layer.Streams body) h = absurd h
 told_none (did.Gave layer.Ids body) h = absurd h
 told_none _ h = refl

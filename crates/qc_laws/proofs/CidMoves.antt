@@ -2,7 +2,7 @@
 -- below that of the id in use.
 use Rattle.std.proofs.Common.{◌≡◌, ℕ, ◌≤◌, ◌⊎◌, inl, inr, Bool, true, false, List, [], ◌∷◌, ◌++◌, Option, Some, None, refl, sym, ap, ◌∙◌, subst, arith, if◌then◌else◌, Contains, append_assoc, append-nil}
 use Rattle.std.proofs.lemmas.List.Elements.{Contains-append_left, Contains-append_right}
-use Rattle.std.specs.Prelude.{◌==◌, nat_le, is_none, IsPermutation}
+use Rattle.std.specs.Prelude.{◌==◌, ◌&&◌, not, nat_le, is_none, IsPermutation}
 use Rattle.qc_base.specs.declared.ids.IssuedCid.{IssuedCid}
 use Rattle.qc_base.specs.declared.side.Side.{Side}
 use Rattle.qc_base.specs.declared.side.Side.TheVariants.{Client, Server}
@@ -45,17 +45,17 @@ use Rattle.qc_state.specs.Datagrams.{tells_datagram}
 use Rattle.qc_state.specs.Flight.{flown_packet}
 use Rattle.qc_state.specs.Forms.{is_early, number_space}
 use Rattle.qc_state.specs.Ids.{active_limit, again_ids, fired_ids, preferred_steps, sealed_cids}
-use Rattle.qc_state.specs.Keys.{DataKeys, HandshakeKeys, NewKeys, NoKeys, count_one, epoch_in, failure_counted, key_used, keys_dropped, keys_given, ring_used, key_acked, key_discarded, key_opened, key_updated}
+use Rattle.qc_state.specs.Keys.{DataKeys, HandshakeKeys, NewKeys, NoKeys, count_one, epoch_in, failure_counted, key_used, keys_dropped, keys_given, ring_used, key_acked, key_discarded, key_opened, key_updated, initial_renewed}
 use Rattle.qc_state.specs.Life.{data_ready, identifiers_wanted, is_handshake, life_closed, life_drained, life_established, life_raised, reason_given, token_learned}
 use Rattle.qc_state.specs.Lower.{bytes_came, datagrams_stepped, flight_dropped, frame_handed, frames_sealed as frames_taken, ids_stepped, limits_learned, packet_flown, packets_settled, session_read, session_wrote, streams_closed, streams_stepped, timer_fired}
-use Rattle.qc_state.specs.Moves.{Probe, Accept, Ack, Arm, Begin, Clock, Establish, Expect, Fail, Finish, Fire, Fix, Forget, Give, Hand, Hear, Insert, IsTold as MayBeTold, Issue, Learn, MayMove, Move, Outlive, PeerCloses, PeerClosesToo, Raise, ReportAllHeard, ReportConnected, ReportDrained, ReportHeard, ReportLost, ReportNotice, ReportNotices, ReportReady, Retire, Say, Seal, Shut, Skip, Spend, Switch, Take, Tell, Want, Write, deeds_move, keys_move, life_move, lower_move, move_to, paths_move, setup_move, state_move, Unseal, Discard, Update}
+use Rattle.qc_state.specs.Moves.{Probe, Accept, Ack, Arm, Begin, Clock, Establish, Expect, Fail, Finish, Fire, Fix, Forget, Give, Hand, Hear, Insert, IsTold as MayBeTold, Issue, Learn, MayMove, Move, Outlive, PeerCloses, PeerClosesToo, Raise, ReportAllHeard, ReportConnected, ReportDrained, ReportHeard, ReportLost, ReportNotice, ReportNotices, ReportReady, Retire, Say, Seal, Shut, Skip, Spend, Switch, Take, Tell, Want, Write, deeds_move, keys_move, life_move, lower_move, move_to, paths_move, setup_move, state_move, Unseal, Discard, Update, Renew, is_unanswered, is_client}
 use Rattle.qc_state.specs.Moves as moves
 use Rattle.qc_state.specs.Numbers.{next_number, received_number}
 use Rattle.qc_state.specs.Offers.{begun_ids, oldest_in, probe_ids, wants_sending}
 use Rattle.qc_state.specs.Paths.{path_accepted, path_kept, path_named, path_received, path_sent, path_spun, peer_fixed, spun_by, path_capped}
 use Rattle.qc_state.specs.Recovering.{fired_by, settled_by}
 use Rattle.qc_state.specs.Sending.{packet_size}
-use Rattle.qc_state.specs.Setup.{packet_drawn, parameters_known, token_expected, word_drawn}
+use Rattle.qc_state.specs.Setup.{packet_drawn, parameters_known, token_expected, word_drawn, retry_taken}
 use Rattle.qc_state.specs.Spaces.{is_space, space_of}
 use Rattle.qc_state.specs.Types.{Types, Meaning}
 use Rattle.qc_state.specs.View.{View, At}
@@ -64,8 +64,8 @@ use Rattle.qc_state.proofs.Quieted.{probed_chosen, quiet_chosen}
 use Rattle.qc_state.proofs.Probed.{begun_streams}
 use Rattle.qc_state.proofs.Telling.{told_appends}
 use Rattle.qc_state.proofs.Transmitted.{IsSealable}
-use Rattle.qc_state.proofs.KeySteps.{acked_moves, discarded_moves, opened_moves, still_no_ring, updated_moves}
-use Rattle.qc_laws.specs.CidLaws.{Chosen, Given, IsPeers, Preferred}
+use Rattle.qc_state.proofs.KeySteps.{acked_moves, discarded_moves, opened_moves, still_no_ring, updated_moves, renewed_highest}
+use Rattle.qc_laws.specs.CidLaws.{Chosen, Given, IsPeers, Preferred, chosen_in, first_of}
 use Rattle.qc_laws.specs.IdLaws.{given_to_ids}
 use Rattle.qc_laws.specs.StreamsLaws.{frames_sealed}
 use Rattle.qc_laws.proofs.CidFrames.{AreTold, Carry, again_goes, all_more, all_told, carry_append, carry_more, carry_settled, packets_go, told_append, told_kept}
@@ -76,6 +76,7 @@ use Rattle.qc_laws.proofs.IdsHold.{AreCalm, begun_calm, calm_steps, fired_calm, 
 use Rattle.qc_laws.proofs.KnownMoves.{IsFiredBy, IsKnownAbout, IsSettledBy}
 use Rattle.qc_laws.proofs.StreamCalls.{handed_told, heard_state, named_state, retired_state}
 use Rattle.qc_laws.proofs.StreamsSealed.{frames_append}
+use Rattle.qc_state.specs.declared.keys.SpaceKeys.{SpaceKeys}
 
 -- a reason that is given leaves the state
 given_state : (v : Life) (why : ConnectionError) (b : Bool) → (if b then record v { reason = Some why; lost = Some why } else v).state ≡ v.state
@@ -111,6 +112,7 @@ IsPlain (Clock time) = ⊥
 IsPlain (Take id fs) = ⊥
 IsPlain (Seal time form n size fs) = ⊥
 IsPlain (Fix cid) = ⊥
+IsPlain (Renew time cid token keys) = ⊥
 IsPlain (Insert new) = ⊥
 IsPlain Switch = ⊥
 IsPlain (Learn p) = ⊥
@@ -127,15 +129,24 @@ unfolding MayMove
 may_tell (Tell d) s may = may
 may_tell _ s may = tt
 
--- it is neither that the peer chose its id nor that its parameters were read
+-- it is neither that the peer chose an id nor that its parameters were read
 abbrev pub IsOther : {t : Types} → Move t → Type 0
 IsOther (Fix cid) = ⊥
+IsOther (Renew time cid token keys) = ⊥
 IsOther (Learn p) = ⊥
 IsOther _ = Unit {0}
 
+-- the fourth of these tests
+unanswered_by : (a b c : Bool) (o : Option (List ℕ)) (d : Bool) → (a && (b && (c && (is_none o && d)))) ≡ true → o ≡ None
+unanswered_by true true true None d h = refl
+unanswered_by true true true (Some cid) d h = absurd cc
+unanswered_by true true false o d h = absurd cc
+unanswered_by true false c o d h = absurd cc
+unanswered_by false b c o d h = absurd cc
+
 module _ {t : Types} where
   -- the id that the peer chose stays, but for the move with which it chooses one, and so do its parameters
-  other_peer : (x : Move t) (s : View t) → IsOther x → (state_move x s).paths.peer_cid ≡ s.paths.peer_cid
+  pub other_peer : (x : Move t) (s : View t) → IsOther x → (state_move x s).paths.peer_cid ≡ s.paths.peer_cid
   unfolding state_move paths_move path_kept path_named path_received path_sent path_capped
   other_peer (Fix cid) s other = absurd other
   other_peer (Finish bytes control) s other = refl
@@ -155,10 +166,29 @@ module _ {t : Types} where
   other_parameters : (x : Move t) (s : View t) → IsOther x → (state_move x s).setup.peer ≡ s.setup.peer
   unfolding state_move setup_move token_expected word_drawn packet_drawn
   other_parameters (Learn p) s other = absurd other
+  other_parameters (Renew time cid token keys) s other = absurd other
   other_parameters (Expect token) s other = refl
   other_parameters Skip s other = refl
   other_parameters (Seal time form n size fs) s other = refl
   other_parameters _ s other = refl
+
+  -- so does the id that it chose with a Retry
+  pub other_retry : (x : Move t) (s : View t) → IsOther x → (state_move x s).setup.retry_cid ≡ s.setup.retry_cid
+  unfolding state_move setup_move token_expected word_drawn packet_drawn
+  other_retry (Learn p) s other = absurd other
+  other_retry (Renew time cid token keys) s other = absurd other
+  other_retry (Expect token) s other = refl
+  other_retry Skip s other = refl
+  other_retry (Seal time form n size fs) s other = refl
+  other_retry _ s other = refl
+
+  other_chosen : (x : Move t) (s : View t) → IsOther x → chosen_in (state_move x s) ≡ chosen_in s
+  other_chosen x s other = λ i. first_of (other_peer x s other i) (other_retry x s other i)
+
+  -- a Retry is taken before the peer chose an id with a packet
+  unanswered_peer : (s : View t) → is_unanswered s ≡ true → s.paths.peer_cid ≡ None
+  unfolding is_unanswered
+  unanswered_peer s h = unanswered_by (is_client s.setup.fixed.side) (is_handshake s.life.state) (not s.numbers.opened) s.paths.peer_cid (is_none s.setup.retry_cid) h
 
   abbrev flight_of : SpaceId → View t → List Entry
   flight_of id s = (recovery.space_of id s.lower.recovery).flight
@@ -190,10 +220,11 @@ module _ {t : Types} where
     server = λ side e. calm.known ∙ h.server (sym calm.side ∙ side) (calm.highest e);
   }
 
-  same_side : (x : Move t) (s : View t) → (state_move x s).setup.fixed.side ≡ s.setup.fixed.side
-  unfolding state_move setup_move token_expected parameters_known word_drawn packet_drawn
+  pub same_side : (x : Move t) (s : View t) → (state_move x s).setup.fixed.side ≡ s.setup.fixed.side
+  unfolding state_move setup_move token_expected parameters_known word_drawn packet_drawn retry_taken
   same_side (Expect token) s = refl
   same_side (Learn p) s = refl
+  same_side (Renew time cid token keys) s = refl
   same_side Skip s = refl
   same_side (Seal time form n size fs) s = refl
   same_side _ s = refl
@@ -227,6 +258,7 @@ module _ {t : Types} where
   move_highest m (Seal time form n size fs) s k h = absurd k
   move_highest m (Forget id) s k h = sym (dropped_highest s.keys id) ∙ h
   move_highest m Fail s k h = h
+  move_highest m (Renew time cid token keys) s k h = sym (renewed_highest s.keys keys) ∙ h
   move_highest m (Unseal time n which fresh session) s k h = sym (opened_moves s.keys which n fresh).highest ∙ h
   move_highest m (Ack id n r) s k h = sym (acked_moves s.keys id n).highest ∙ h
   move_highest m (Update fresh session) s k h = sym (updated_moves s.keys fresh).highest ∙ h
@@ -241,6 +273,10 @@ module _ {t : Types} where
   pub calm_fix : (cid : List ℕ) (s : View t) → Calm s (state_move (Fix cid) s)
   unfolding state_move setup_move life_move keys_move
   calm_fix cid s = record { side = refl; known = refl; handshake = λ h. h; highest = λ h. h }
+
+  pub calm_renew : (time : ℕ) (cid token : List ℕ) (keys : SpaceKeys t.H t.P) (s : View t) → Calm s (state_move (Renew time cid token keys) s)
+  unfolding state_move setup_move life_move keys_move retry_taken
+  calm_renew time cid token keys s = record { side = refl; known = refl; handshake = λ h. h; highest = λ h. sym (renewed_highest s.keys keys) ∙ h }
 
   pub calm_seal : (time : ℕ) (form : Form) (fs : List FrameValue) (a : At t) → Calm a.state (move_to (Seal time form (next_number a.state.numbers (number_space form)) (packet_size a.state form fs) fs) (move_to (Take (number_space form) fs) a)).state
   unfolding move_to state_move setup_move life_move keys_move packet_drawn
@@ -362,6 +398,7 @@ module _ {t : Types} (m : Meaning t) (first : List ℕ) (given : List (List ℕ)
   goes_by (Ack id n r) s chosen parameters k other issued gave h = packets_go (Known chosen parameters) I r.lost s.lower.ids (ack_carries id r s (active_seq_of s.lower.ids.remote) k h.flight).0 h.fine
   goes_by (Fire r) s chosen parameters k other issued gave h = (fire_carries r s chosen parameters k h).0
   goes_by (Fix cid) s chosen parameters k other issued gave h = absurd other
+  goes_by (Renew time cid token keys) s chosen parameters k other issued gave h = absurd other
   goes_by (Want time count) s chosen parameters k other issued gave h = steps_go (Known chosen parameters) I (cids.Asked count ∷ []) s.lower.ids (tt, tt) h.fine
   goes_by (Insert new) s chosen parameters k other issued gave h =
       steps_go (Known chosen parameters) I (cids.NewCame new ∷ []) s.lower.ids (Given new (gave (spelling (frames.NewConnectionId new)) (0, omega arith, refl)) refl refl, tt) h.fine
@@ -377,6 +414,7 @@ module _ {t : Types} (m : Meaning t) (first : List ℕ) (given : List (List ℕ)
   carries_by (Clock time) s chosen parameters k h = absurd k
   carries_by (Take id fs) s chosen parameters k h = absurd k
   carries_by (Seal time form n size fs) s chosen parameters k h = absurd k
+  carries_by (Renew time cid token keys) s chosen parameters k h = dropped_carries Initial (active_seq_of s.lower.ids.remote) s.lower.recovery h.flight
   carries_by (Forget id) s chosen parameters k h = dropped_carries id (active_seq_of s.lower.ids.remote) s.lower.recovery h.flight
   carries_by (Ack id n r) s chosen parameters k h = (ack_carries id r s (active_seq_of s.lower.ids.remote) k h.flight).1
   carries_by (Fire r) s chosen parameters k h = (fire_carries r s chosen parameters k h).1
@@ -397,10 +435,10 @@ module _ {t : Types} (m : Meaning t) (first : List ℕ) (given : List (List ℕ)
       stays_by chosen parameters s (state_move x s) (subst (λ (y : ConnectionIds). Goes (Known chosen parameters) I s.lower.ids y) (sym (moved_ids m x s k)) (goes_by x s chosen parameters k other issued gave h)) (carries_by x s chosen parameters k h)
 
   -- the peer chooses its id, where the one that packets carry has number 0, and is the only one
-  fix_stays : (cid : List ℕ) (s : View t) (parameters : Option TransportParameters) → s.lower.ids.remote ≡ first_cid first → Stands None parameters s → Stays (Some cid) parameters s (state_move (Fix cid) s)
+  fix_stays : (cid only : List ℕ) (s : View t) (chosen : Option (List ℕ)) (parameters : Option TransportParameters) → s.lower.ids.remote ≡ first_cid only → Stands chosen parameters s → Stays (Some cid) parameters s (state_move (Fix cid) s)
   unfolding state_move lower_move ids_stepped after after_step
-  fix_stays cid s parameters is h =
-      let same : renamed cid s.lower.ids.remote ≡ renamed cid (first_cid first) = ap (λ (xs : List KeptCid). renamed cid xs) is in
+  fix_stays cid only s chosen parameters is h =
+      let same : renamed cid s.lower.ids.remote ≡ renamed cid (first_cid only) = ap (λ (xs : List KeptCid). renamed cid xs) is in
       let alike : active_seq_of (renamed cid s.lower.ids.remote) ≡ active_seq_of s.lower.ids.remote = ap active_seq_of same ∙ sym (ap active_seq_of is) in
       record {
         stands = record {
@@ -413,6 +451,28 @@ module _ {t : Types} (m : Meaning t) (first : List ℕ) (given : List (List ℕ)
         };
         later = omega (arith, alike);
       }
+
+  -- so it does with a Retry
+  renew_stays : (time : ℕ) (cid token : List ℕ) (keys : SpaceKeys t.H t.P) (only : List ℕ) (s : View t) (chosen : Option (List ℕ)) (parameters : Option TransportParameters) → s.lower.ids.remote ≡ first_cid only → Stands chosen parameters s →
+      Stays (Some cid) parameters s (state_move (Renew time cid token keys) s)
+  unfolding state_move lower_move flight_dropped ids_stepped after after_step
+  renew_stays time cid token keys only s chosen parameters is h =
+      let same : renamed cid s.lower.ids.remote ≡ renamed cid (first_cid only) = ap (λ (xs : List KeptCid). renamed cid xs) is in
+      let alike : active_seq_of (renamed cid s.lower.ids.remote) ≡ active_seq_of s.lower.ids.remote = ap active_seq_of same ∙ sym (ap active_seq_of is) in
+      record {
+        stands = record {
+          fine = record {
+            peers = subst (λ (xs : List KeptCid). Peers (Known (Some cid) parameters) xs) (sym same) (record { some = omega arith; grows = (omega arith, tt); known = (Chosen refl refl, tt) });
+            below = subst (λ (n : ℕ). AllBelow n s.lower.ids.retired) (sym alike) h.fine.below;
+            told = h.fine.told;
+          };
+          flight = subst (λ (n : ℕ). AllCarry n (dropped_after Initial s.lower.recovery)) (sym alike) (dropped_carries Initial (active_seq_of s.lower.ids.remote) s.lower.recovery h.flight);
+        };
+        later = omega (arith, alike);
+      }
+
+  renamed_only : (cid only : List ℕ) (xs : List KeptCid) → xs ≡ first_cid only → renamed cid xs ≡ first_cid cid
+  renamed_only cid only xs is = ap (λ (ys : List KeptCid). renamed cid ys) is
 
   -- the peer's parameters are read, where none were known
   more_known : (chosen : Option (List ℕ)) (p : TransportParameters) (n : ℕ) (id : List ℕ) → Known chosen None n id → Known chosen (Some p) n id
@@ -432,7 +492,8 @@ module _ {t : Types} (m : Meaning t) (first : List ℕ) (given : List (List ℕ)
   pub record Early (s : View t) : Type 0 where
     pub handshake : s.keys.handshake ≡ None
     pub one_rtt : s.keys.«data» ≡ None
-    pub remote : s.lower.ids.remote ≡ first_cid first
+    pub only : List ℕ
+    pub remote : s.lower.ids.remote ≡ first_cid only
 
   forgot_handshake : (v : KeyGroup t.H t.P) (id : SpaceId) → v.handshake ≡ None → (keys_dropped v id).handshake ≡ None
   unfolding keys_dropped
@@ -454,6 +515,7 @@ module _ {t : Types} (m : Meaning t) (first : List ℕ) (given : List (List ℕ)
   early_handshake (Write bytes keys session) s plain h = absurd plain
   early_handshake (Forget id) s plain h = forgot_handshake s.keys id h
   early_handshake Fail s plain h = h
+  early_handshake (Renew time cid token keys) s plain h = absurd plain
   early_handshake (Unseal time n which fresh session) s plain h = (opened_moves s.keys which n fresh).handshake ∙ h
   early_handshake (Ack id n r) s plain h = (acked_moves s.keys id n).handshake ∙ h
   early_handshake (Update fresh session) s plain h = (updated_moves s.keys fresh).handshake ∙ h
@@ -468,6 +530,7 @@ module _ {t : Types} (m : Meaning t) (first : List ℕ) (given : List (List ℕ)
   early_one_rtt (Write bytes keys session) s plain h = absurd plain
   early_one_rtt (Forget id) s plain h = forgot_one_rtt s.keys id h
   early_one_rtt Fail s plain h = h
+  early_one_rtt (Renew time cid token keys) s plain h = absurd plain
   early_one_rtt (Unseal time n which fresh session) s plain h = still_no_ring s.keys (key_opened s.keys which n fresh) (opened_moves s.keys which n fresh) h
   early_one_rtt (Ack id n r) s plain h = still_no_ring s.keys (key_acked s.keys id n) (acked_moves s.keys id n) h
   early_one_rtt (Update fresh session) s plain h = still_no_ring s.keys (key_updated s.keys fresh) (updated_moves s.keys fresh) h
@@ -479,6 +542,7 @@ module _ {t : Types} (m : Meaning t) (first : List ℕ) (given : List (List ℕ)
   early_calm (Ack id n r) s plain = packets_calm r.lost
   early_calm (Fire r) s plain = fired_calm r.fired
   early_calm (Fix cid) s plain = absurd plain
+  early_calm (Renew time cid token keys) s plain = absurd plain
   early_calm (Want time count) s plain = (tt, tt)
   early_calm (Insert new) s plain = absurd plain
   early_calm Switch s plain = absurd plain
@@ -493,6 +557,7 @@ module _ {t : Types} (m : Meaning t) (first : List ℕ) (given : List (List ℕ)
   early_move x s plain k h = record {
     handshake = early_handshake x s plain h.handshake;
     one_rtt = early_one_rtt x s plain h.one_rtt;
+    only = h.only;
     remote = ap (λ (y : ConnectionIds). y.remote) (moved_ids m x s k) ∙ calm_steps (steps_by x s) s.lower.ids (early_calm x s plain) ∙ h.remote;
   }
 
@@ -514,7 +579,7 @@ module _ {t : Types} (m : Meaning t) (first : List ℕ) (given : List (List ℕ)
 
   -- what holds of a view
   pub record Holds (s : View t) : Type 0 where
-    pub stands : Stands s.paths.peer_cid s.setup.peer s
+    pub stands : Stands (chosen_in s) s.setup.peer s
     pub early : s.paths.peer_cid ≡ None → Early s
 
   -- and of the deeds so far
@@ -546,6 +611,7 @@ module _ {t : Types} (m : Meaning t) (first : List ℕ) (given : List (List ℕ)
   unfolding MayMove state_move paths_move path_named path_capped path_kept
   fixed_peer (Fix other) s may cid e = absurd (let none : s.paths.peer_cid ≡ None = may in cc)
   fixed_peer (Learn p) s may cid e = e
+  fixed_peer (Renew time other token keys) s may cid e = e
   fixed_peer x s may cid e = other_peer x s tt ∙ e
 
   pub told_move : (x : Move t) (a : At t) → MayMove x a.state → Told a (move_to x a)
@@ -602,15 +668,15 @@ module _ {t : Types} (m : Meaning t) (first : List ℕ) (given : List (List ℕ)
     holds = λ among h.
         let s : View t = a.state in
         let ds : List Did = deeds_move x s in
-        let same : (state_move x s).paths.peer_cid ≡ s.paths.peer_cid = other_peer x s other in
+        let same : chosen_in (state_move x s) ≡ chosen_in s = other_chosen x s other in
         let gave : AllGiven ds = given_behind a.did ds (subst (λ (es : List Did). AllGiven es) (told_appends a.did ds) among) in
         let known : (state_move x s).setup.peer ≡ s.setup.peer = other_parameters x s other in
-        let stays : Stays s.paths.peer_cid s.setup.peer s (state_move x s) = move_stays x s s.paths.peer_cid s.setup.peer k other issued gave h.view.stands in
+        let stays : Stays (chosen_in s) s.setup.peer s (state_move x s) = move_stays x s (chosen_in s) s.setup.peer k other issued gave h.view.stands in
         let n : ℕ = active_seq_of (state_move x s).lower.ids.remote in (
           record {
             view = record {
               stands = subst (λ (chosen : Option (List ℕ)). Stands chosen (state_move x s).setup.peer (state_move x s)) (sym same)
-                  (subst (λ (parameters : Option TransportParameters). Stands s.paths.peer_cid parameters (state_move x s)) (sym known) stays.stands);
+                  (subst (λ (parameters : Option TransportParameters). Stands (chosen_in s) parameters (state_move x s)) (sym known) stays.stands);
               early = early h.view;
             };
             sealed = subst (λ (fs : List FrameValue). AreTold I n fs) (sym (ap frames_sealed (told_appends a.did ds) ∙ frames_append a.did ds ∙ ap (λ (fs : List FrameValue). frames_sealed a.did ++ fs) (unsealed_by x s k may)))
@@ -623,6 +689,7 @@ module _ {t : Types} (m : Meaning t) (first : List ℕ) (given : List (List ℕ)
   pub plain_other : (x : Move t) → IsPlain x → IsOther x
   plain_other (Fix cid) plain = absurd plain
   plain_other (Learn p) plain = absurd plain
+  plain_other (Renew time cid token keys) plain = absurd plain
   plain_other _ plain = tt
 
   -- a plain one
@@ -651,7 +718,7 @@ module _ {t : Types} (m : Meaning t) (first : List ℕ) (given : List (List ℕ)
     told = record { since = []; appended = sym (append-nil a.did); chosen = λ other is. is };
     holds = λ among h.
         let s : View t = a.state in
-        let stays : Stays s.paths.peer_cid (Some p) s (state_move (Learn p) s) = learn_stays p s s.paths.peer_cid k (subst (λ (parameters : Option TransportParameters). Stands s.paths.peer_cid parameters s) none h.view.stands) in
+        let stays : Stays (chosen_in s) (Some p) s (state_move (Learn p) s) = learn_stays p s (chosen_in s) k (subst (λ (parameters : Option TransportParameters). Stands (chosen_in s) parameters s) none h.view.stands) in
         let n : ℕ = active_seq_of (state_move (Learn p) s).lower.ids.remote in (
           record { view = record { stands = stays.stands; early = λ unknown. absurd (let no : s.paths.peer_cid ≡ None = unknown in cc) }; sealed = all_more I (active_seq_of s.lower.ids.remote) n (frames_sealed a.did) stays.later h.sealed },
           stays.later,
@@ -665,9 +732,34 @@ module _ {t : Types} (m : Meaning t) (first : List ℕ) (given : List (List ℕ)
     told = told_move (Fix cid) a none;
     holds = λ among h.
         let s : View t = a.state in
-        let stays : Stays (Some cid) s.setup.peer s (state_move (Fix cid) s) = fix_stays cid s s.setup.peer (h.view.early none).remote (subst (λ (chosen : Option (List ℕ)). Stands chosen s.setup.peer s) none h.view.stands) in
+        let early : Early s = h.view.early none in
+        let stays : Stays (Some cid) s.setup.peer s (state_move (Fix cid) s) = fix_stays cid early.only s (chosen_in s) s.setup.peer early.remote h.view.stands in
         let n : ℕ = active_seq_of (state_move (Fix cid) s).lower.ids.remote in (
           record { view = record { stands = stays.stands; early = λ e. absurd (let no : Some cid ≡ None = e in cc) }; sealed = all_more I (active_seq_of s.lower.ids.remote) n (frames_sealed a.did) stays.later h.sealed },
+          stays.later,
+        );
+  }
+
+  -- so it does with a Retry
+  pub renew_leads : (time : ℕ) (cid token : List ℕ) (keys : SpaceKeys t.H t.P) (a : At t) → MayMove (Renew time cid token keys) a.state → Leads a (move_to (Renew time cid token keys) a)
+  unfolding move_to MayMove deeds_move state_move paths_move path_named setup_move retry_taken keys_move initial_renewed lower_move flight_dropped ids_stepped after after_step
+  renew_leads time cid token keys a may = record {
+    told = told_move (Renew time cid token keys) a may;
+    holds = λ among h.
+        let s : View t = a.state in
+        let none : s.paths.peer_cid ≡ None = unanswered_peer s may in
+        let early : Early s = h.view.early none in
+        let behind : View t = state_move (Renew time cid token keys) s in
+        let stays : Stays (Some cid) s.setup.peer s behind = renew_stays time cid token keys early.only s (chosen_in s) s.setup.peer early.remote h.view.stands in
+        let n : ℕ = active_seq_of behind.lower.ids.remote in (
+          record {
+            view = record {
+              stands = subst (λ (chosen : Option (List ℕ)). Stands chosen s.setup.peer behind) (sym (ap (λ (o : Option (List ℕ)). first_of o (Some cid)) none)) stays.stands;
+              early = λ e. record { handshake = early.handshake; one_rtt = early.one_rtt; only = cid; remote = renamed_only cid early.only s.lower.ids.remote early.remote };
+            };
+            sealed = subst (λ (fs : List FrameValue). AreTold I n fs) (sym (frames_append a.did (did.Piece None None verdict.RetryTaken ∷ [])))
+                (told_append I n (frames_sealed a.did) [] (all_more I (active_seq_of s.lower.ids.remote) n (frames_sealed a.did) stays.later h.sealed) tt);
+          },
           stays.later,
         );
   }
@@ -688,9 +780,9 @@ module _ {t : Types} (m : Meaning t) (first : List ℕ) (given : List (List ℕ)
         told = record { since = did.Sealed (number_space form) number (epoch_in s.keys form) (is_early form) fs ∷ []; appended = refl; chosen = λ cid e. e };
         holds = λ among h.
             let n : ℕ = active_seq_of s.lower.ids.remote in
-            let told = all_told (Known s.paths.peer_cid s.setup.peer) I fs s.lower.ids may.next h.view.stands.fine in
-            let goes : Goes (Known s.paths.peer_cid s.setup.peer) I s.lower.ids c.state.lower.ids = subst (λ (y : ConnectionIds). Goes (Known s.paths.peer_cid s.setup.peer) I s.lower.ids y) (sym same) told.1 in
-            let stays : Stays s.paths.peer_cid s.setup.peer s c.state = stays_by s.paths.peer_cid s.setup.peer s c.state goes (flown_carries owed b.state.lower (number_space form) n number packet (told_kept I n fs told.0) h.view.stands.flight) in
+            let told = all_told (Known (chosen_in s) s.setup.peer) I fs s.lower.ids may.next h.view.stands.fine in
+            let goes : Goes (Known (chosen_in s) s.setup.peer) I s.lower.ids c.state.lower.ids = subst (λ (y : ConnectionIds). Goes (Known (chosen_in s) s.setup.peer) I s.lower.ids y) (sym same) told.1 in
+            let stays : Stays (chosen_in s) s.setup.peer s c.state = stays_by (chosen_in s) s.setup.peer s c.state goes (flown_carries owed b.state.lower (number_space form) n number packet (told_kept I n fs told.0) h.view.stands.flight) in
             let k : ℕ = active_seq_of c.state.lower.ids.remote in (
               record {
                 view = record {
@@ -700,6 +792,7 @@ module _ {t : Types} (m : Meaning t) (first : List ℕ) (given : List (List ℕ)
                       record {
                         handshake = used_handshake s.keys form number early.handshake;
                         one_rtt = used_one_rtt s.keys form number early.one_rtt;
+                        only = early.only;
                         remote = ap (λ (y : ConnectionIds). y.remote) same ∙ calm_steps (sealed_cids fs) s.lower.ids (sealed_calm fs) ∙ early.remote;
                       };
                 };

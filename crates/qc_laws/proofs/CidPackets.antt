@@ -38,7 +38,7 @@ use Rattle.qc_state.specs.Keys.{unmasking_key}
 use Rattle.qc_state.specs.Forms.{number_space}
 use Rattle.qc_state.specs.Ids.{active_limit, insert_stop}
 use Rattle.qc_state.specs.Life.{is_handshake, is_open, life_established}
-use Rattle.qc_state.specs.Moves.{Accept, Ask, Call, Clock, Confirm, Enter, Establish, Finish, Fire, Fix, Forget, Insert, Issue, Learn, MayMove, Move, Owe, PeerClosesToo, Post, Seal, Shut, Spend, Switch, Take, Tell, Token, Want, Write, armed_after, keys_move, life_move, lower_move, move_to, paths_move, setup_move, state_move, Unseal, Update}
+use Rattle.qc_state.specs.Moves.{Accept, Ask, Call, Clock, Confirm, Enter, Establish, Finish, Fire, Fix, Forget, Insert, Issue, Learn, MayMove, Move, Owe, PeerClosesToo, Post, Seal, Shut, Spend, Switch, Take, Tell, Token, Want, Write, armed_after, keys_move, life_move, lower_move, move_to, paths_move, setup_move, state_move, Unseal, Update, Renew}
 use Rattle.qc_state.specs.Numbers.{next_number}
 use Rattle.qc_state.specs.Opening.{opened_at, opened_form, opened_in, opening_of}
 use Rattle.qc_state.specs.Paths.{is_blocked, peer_fixed}
@@ -62,7 +62,7 @@ use Rattle.qc_state.proofs.PacketMoves.{OpenPacket}
 use Rattle.qc_state.proofs.ReceivedMoves.{IsEnding, IsOutside}
 use Rattle.qc_state.proofs.Transmitted.{IsSealable, IsSending, transmit_told, untold_sending}
 use Rattle.qc_datagrams.specs.Steps as datagrams
-use Rattle.qc_laws.proofs.CidMoves.{AllGiven, Calm, Early, GivesIssued, HoldsAt, IsOther, IsPlain, IsToldSo, Later, Leads, Once, Told, calm_fix, calm_here, calm_move, calm_next, calm_once, calm_seal, fix_leads, later_here, later_learn, later_move, later_next, leads_here, leads_next, may_tell, packet_leads, plain_leads, plain_other, told_here, told_move, told_next}
+use Rattle.qc_laws.proofs.CidMoves.{AllGiven, Calm, Early, GivesIssued, HoldsAt, IsOther, IsPlain, IsToldSo, Later, Leads, Once, Told, calm_fix, calm_here, calm_move, calm_next, calm_once, calm_seal, fix_leads, later_here, later_learn, later_move, later_next, leads_here, leads_next, may_tell, packet_leads, plain_leads, plain_other, told_here, told_move, told_next, calm_renew, renew_leads}
 use Rattle.qc_laws.proofs.CidQueues.{AllIssued}
 use Rattle.qc_laws.proofs.CidWalk.{IsEasy, ending_easy, ending_known, payload_walked}
 use Rattle.qc_laws.proofs.KnownMoves.{IsKnownAbout, expiry_known, known_about, outside_known, sending_known}
@@ -71,22 +71,29 @@ use Rattle.qc_laws.proofs.StreamCalls.{called_input}
 
 -- ---- moves that leave the peer's ids and give no keys
 
-outside_plain : {t : Types} (time : ℕ) (x : Move t) (s : View t) → IsOutside time x s → IsPlain x
-outside_plain at_time (Clock time) s h = absurd h
-outside_plain at_time (Take id fs) s h = absurd h
-outside_plain at_time (Seal time form n size fs) s h = absurd h
-outside_plain at_time (Fix cid) s h = absurd h
-outside_plain at_time (Insert new) s h = absurd h
-outside_plain at_time Switch s h = absurd h
-outside_plain at_time (Learn p) s h = absurd h
-outside_plain at_time (Write bytes keys session) s h = absurd h
-outside_plain at_time _ s h = tt
+-- but for a Retry that is taken
+abbrev IsUnretried : {t : Types} → Move t → Type 0
+IsUnretried (Renew time cid token keys) = ⊥
+IsUnretried _ = Unit {0}
+
+outside_plain : {t : Types} (time : ℕ) (x : Move t) (s : View t) → IsOutside time x s → IsUnretried x → IsPlain x
+outside_plain at_time (Clock time) s h u = absurd h
+outside_plain at_time (Take id fs) s h u = absurd h
+outside_plain at_time (Seal time form n size fs) s h u = absurd h
+outside_plain at_time (Fix cid) s h u = absurd h
+outside_plain at_time (Renew time cid token keys) s h u = absurd u
+outside_plain at_time (Insert new) s h u = absurd h
+outside_plain at_time Switch s h u = absurd h
+outside_plain at_time (Learn p) s h u = absurd h
+outside_plain at_time (Write bytes keys session) s h u = absurd h
+outside_plain at_time _ s h u = tt
 
 ending_plain : {t : Types} (x : Move t) → IsEnding x → IsPlain x
 ending_plain (Clock time) h = absurd h
 ending_plain (Take id fs) h = absurd h
 ending_plain (Seal time form n size fs) h = absurd h
 ending_plain (Fix cid) h = absurd h
+ending_plain (Renew time cid token keys) h = absurd h
 ending_plain (Insert new) h = absurd h
 ending_plain Switch h = absurd h
 ending_plain (Learn p) h = absurd h
@@ -98,6 +105,7 @@ expiry_plain (Clock time) h = absurd h
 expiry_plain (Take id fs) h = absurd h
 expiry_plain (Seal time form n size fs) h = absurd h
 expiry_plain (Fix cid) h = absurd h
+expiry_plain (Renew time cid token keys) h = absurd h
 expiry_plain (Insert new) h = absurd h
 expiry_plain Switch h = absurd h
 expiry_plain (Learn p) h = absurd h
@@ -109,6 +117,7 @@ sending_plain (Clock time) h = absurd h
 sending_plain (Take id fs) h = absurd h
 sending_plain (Seal time form n size fs) h = absurd h
 sending_plain (Fix cid) h = absurd h
+sending_plain (Renew time cid token keys) h = absurd h
 sending_plain (Insert new) h = absurd h
 sending_plain Switch h = absurd h
 sending_plain (Learn p) h = absurd h
@@ -193,6 +202,7 @@ module _ {t : Types} (m : Meaning t) (first : List ℕ) (given : List (List ℕ)
   easy_other : (x : Move t) → IsEasy x → IsOther x
   easy_other (Fix cid) h = absurd h
   easy_other (Learn p) h = absurd h
+  easy_other (Renew time cid token keys) h = absurd h
   easy_other _ h = tt
 
   easy_told : (x : Move t) → IsEasy x → IsToldSo x
@@ -507,8 +517,13 @@ module _ {t : Types} (m : Meaning t) (first : List ℕ) (given : List (List ℕ)
   unfolding move_to
   plain x a is k told issued = λ once. (plain_leads m first given I x a is k told issued, calm_once a.state (state_move x a.state) (calm_move m x a.state k (plain_other m first given I x is)) once)
 
+  retried : (time : ℕ) (cid token : List ℕ) (keys : SpaceKeys t.H t.P) (a : At t) → MayMove (Renew time cid token keys) a.state → OnceLeads a (move_to (Renew time cid token keys) a)
+  unfolding move_to
+  retried time cid token keys a may = λ once. (renew_leads m first given I time cid token keys a may, calm_once a.state (state_move (Renew time cid token keys) a.state) (calm_renew time cid token keys a.state) once)
+
   outside : (time : ℕ) (x : Move t) (a : At t) → IsOutside time x a.state → MayMove x a.state → OnceLeads a (move_to x a)
-  outside time x a h may = plain x a (outside_plain time x a.state h) (known_about m x a.state (outside_known m time x a.state h)) (may_tell x a.state may) (outside_issued time x a.state h)
+  outside time (Renew at cid token keys) a h may = retried at cid token keys a may
+  outside time x a h may = plain x a (outside_plain time x a.state h tt) (known_about m x a.state (outside_known m time x a.state h)) (may_tell x a.state may) (outside_issued time x a.state h)
 
   seal : (time : ℕ) (form : Form) (fs : List FrameValue) (a : At t) → IsSealable time a.state form fs →
       OnceLeads a (move_to (Seal time form (next_number a.state.numbers (number_space form)) (packet_size a.state form fs) fs) (move_to (Take (number_space form) fs) a))

@@ -32,7 +32,7 @@ use Rattle.qc_state.specs.Run.{IsStep, Run, began, called, input_after, reported
 use Rattle.qc_state.specs.Run as run
 use Rattle.qc_state.specs.Types.{Types, Meaning}
 use Rattle.qc_state.specs.View.{View, At}
-use Rattle.qc_laws.specs.CidLaws.{AllNameBelow, Chosen, EachIssued, HasNewIds, IsPeers, TellsIssued, issued_by, issued_in}
+use Rattle.qc_laws.specs.CidLaws.{AllNameBelow, Chosen, EachIssued, HasNewIds, IsPeers, TellsIssued, issued_by, issued_in, chosen_in, first_of}
 use Rattle.qc_laws.specs.IdLaws.{CarriesUsed, given_to_ids}
 use Rattle.qc_laws.specs.StreamsLaws.{frames_sealed, with_steps}
 use Rattle.qc_laws.proofs.CidFrames.{AreTold, Carry, are_issued, more_carry, names_below}
@@ -76,6 +76,11 @@ first_chosen : (first : List ℕ) (chosen : Option (List ℕ)) → ((cid : List 
 first_chosen first None h = refl
 first_chosen first (Some cid) h = sym (h cid refl)
 
+-- so where no Retry was taken
+new_chosen : (first : List ℕ) (peer retry : Option (List ℕ)) → retry ≡ None → ((cid : List ℕ) → peer ≡ Some cid → cid ≡ first) → (cid : List ℕ) → first_of peer retry ≡ Some cid → cid ≡ first
+new_chosen first None retry none chosen cid e = absurd cc
+new_chosen first (Some other) retry none chosen cid e = chosen cid e
+
 -- numbers below one that is greater, and of frames behind others
 names_more : (n m : ℕ) (fs : List FrameValue) → n ≤ m → AllNameBelow n fs → AllNameBelow m fs
 names_more n m [] le h = tt
@@ -88,14 +93,14 @@ names_append n (f ∷ fs) gs h g = (h.0, names_append n fs gs h.1 g)
 
 module _ {t : Types} (m : Meaning t) (first : List ℕ) (given : List (List ℕ)) where
   -- what holds of a view holds of one with the same ids, packets in flight, and keys, where more ids are issued
-  same_holds : (I J : IssuedCid → Type 0) → ((c : IssuedCid) → I c → J c) → (s s' : View t) → s'.lower.ids ≡ s.lower.ids → s'.lower.recovery ≡ s.lower.recovery → s'.keys ≡ s.keys → s'.paths.peer_cid ≡ s.paths.peer_cid → s'.setup.peer ≡ s.setup.peer →
+  same_holds : (I J : IssuedCid → Type 0) → ((c : IssuedCid) → I c → J c) → (s s' : View t) → s'.lower.ids ≡ s.lower.ids → s'.lower.recovery ≡ s.lower.recovery → s'.keys ≡ s.keys → s'.paths.peer_cid ≡ s.paths.peer_cid → s'.setup.retry_cid ≡ s.setup.retry_cid → s'.setup.peer ≡ s.setup.peer →
       Holds m first given I s → Holds m first given J s'
-  same_holds I J more s s' ids flight keys peer known h = record {
+  same_holds I J more s s' ids flight keys peer retry known h = record {
     stands = record {
-      fine = subst (λ (y : ConnectionIds). Fine (IsPeers first s'.paths.peer_cid s'.setup.peer given) J y) (sym ids)
-          (subst (λ (chosen : Option (List ℕ)). Fine (IsPeers first chosen s'.setup.peer given) J s.lower.ids) (sym peer)
-          (subst (λ (parameters : Option TransportParameters). Fine (IsPeers first s.paths.peer_cid parameters given) J s.lower.ids) (sym known)
-          (more_fine (IsPeers first s.paths.peer_cid s.setup.peer given) (IsPeers first s.paths.peer_cid s.setup.peer given) I J (λ n id is. is) more s.lower.ids h.stands.fine)));
+      fine = subst (λ (y : ConnectionIds). Fine (IsPeers first (chosen_in s') s'.setup.peer given) J y) (sym ids)
+          (subst (λ (chosen : Option (List ℕ)). Fine (IsPeers first chosen s'.setup.peer given) J s.lower.ids) (λ i. first_of (sym peer i) (sym retry i))
+          (subst (λ (parameters : Option TransportParameters). Fine (IsPeers first (chosen_in s) parameters given) J s.lower.ids) (sym known)
+          (more_fine (IsPeers first (chosen_in s) s.setup.peer given) (IsPeers first (chosen_in s) s.setup.peer given) I J (λ n id is. is) more s.lower.ids h.stands.fine)));
       flight = λ id.
           subst (λ (y : ConnectionIds). Carry J (active_seq_of y.remote) (recovery.space_of id s'.lower.recovery).flight) (sym ids)
           (subst (λ (r : Recovery). Carry J (active_seq_of s.lower.ids.remote) (recovery.space_of id r).flight) (sym flight)
@@ -106,6 +111,7 @@ module _ {t : Types} (m : Meaning t) (first : List ℕ) (given : List (List ℕ)
         record {
           handshake = ap (λ (k : KeyGroup t.H t.P). k.handshake) keys ∙ e.handshake;
           one_rtt = ap (λ (k : KeyGroup t.H t.P). k.«data») keys ∙ e.one_rtt;
+          only = e.only;
           remote = ap (λ (y : ConnectionIds). y.remote) ids ∙ e.remote;
         };
   }
@@ -124,14 +130,14 @@ module _ {t : Types} (m : Meaning t) (first : List ℕ) (given : List (List ℕ)
       let J : IssuedCid → Type 0 = IsOne (before ++ (i, x) ∷ []) in
       let a : At t = began s (time_of i) in
       let b : At t = input_after m i h.choice a in
-      let begins : HoldsAt m first given J a = record { view = same_holds (IsOne before) J (one_before before ((i, x) ∷ [])) s a.state refl refl refl refl refl start; sealed = tt } in
+      let begins : HoldsAt m first given J a = record { view = same_holds (IsOne before) J (one_before before ((i, x) ∷ [])) s a.state refl refl refl refl refl refl start; sealed = tt } in
       let leads = input_leads m first given J i h.choice a (input_issues m first given before i x) h.allowed (record { client = once.client; server = once.server }) in
       let both = leads.0.holds (subst (λ (ds : List Did). (body : List ℕ) → Contains (given_to_ids ds) body → Contains given body) h.deeds gave) begins in
       let ids : s'.lower.ids ≡ b.state.lower.ids = ap (λ (l : Lower t.S). l.ids) h.lower in
       let same : active_seq_of s'.lower.ids.remote ≡ active_seq_of b.state.lower.ids.remote = ap (λ (y : ConnectionIds). active_seq_of y.remote) ids in
       let later = both.1 in
       record {
-        holds = same_holds J J (λ c is. is) b.state s' ids (ap (λ (l : Lower t.S). l.recovery) h.lower) h.keys (ap (λ (p : Paths t.C). p.peer_cid) h.paths) (ap (λ (v : Setup Stream). v.peer) h.setup) both.0.view;
+        holds = same_holds J J (λ c is. is) b.state s' ids (ap (λ (l : Lower t.S). l.recovery) h.lower) h.keys (ap (λ (p : Paths t.C). p.peer_cid) h.paths) (ap (λ (v : Setup Stream). v.retry_cid) h.setup) (ap (λ (v : Setup Stream). v.peer) h.setup) both.0.view;
         later = omega arith;
         told = subst (λ (n : ℕ). AreTold J n (frames_sealed x.did)) (sym same) (subst (λ (ds : List Did). AreTold J (active_seq_of b.state.lower.ids.remote) (frames_sealed ds)) (sym h.deeds) both.0.sealed);
         once = calm_once b.state s' (record {
@@ -154,7 +160,7 @@ module _ {t : Types} (m : Meaning t) (first : List ℕ) (given : List (List ℕ)
   unfolding Run
   run_over k s [] [] s' before r gave start once =
       subst (λ (v : View t). RunOver before [] [] s v) (sym r)
-      (record { holds = same_holds (IsOne before) (IsOne (before ++ [])) (one_before before []) s s refl refl refl refl refl start; later = omega arith; issued = tt; below = tt })
+      (record { holds = same_holds (IsOne before) (IsOne (before ++ [])) (one_before before []) s s refl refl refl refl refl refl start; later = omega arith; issued = tt; below = tt })
   run_over k s (i ∷ is) (x ∷ xs) s' before r gave start once =
       let call : Input × TraceStep = (i, x) in
       let front : (body : List ℕ) → Contains (given_to_ids x.did) body → Contains given body =
@@ -185,11 +191,11 @@ module _ {t : Types} (m : Meaning t) where
       let remote : List ℕ = s.paths.current.remote_cid in
       record {
         stands = record {
-          fine = subst (λ (y : ConnectionIds). Fine (IsPeers remote s.paths.peer_cid s.setup.peer given) I y) (sym new.ids)
-              (record { peers = record { some = omega arith; grows = (omega arith, tt); known = (Chosen refl (first_chosen remote s.paths.peer_cid new.chosen), tt) }; below = tt; told = tt });
+          fine = subst (λ (y : ConnectionIds). Fine (IsPeers remote (chosen_in s) s.setup.peer given) I y) (sym new.ids)
+              (record { peers = record { some = omega arith; grows = (omega arith, tt); known = (Chosen refl (first_chosen remote (chosen_in s) (new_chosen remote s.paths.peer_cid s.setup.retry_cid new.retry new.chosen)), tt) }; below = tt; told = tt });
           flight = λ id. subst (λ (es : List Entry). Carry I (active_seq_of s.lower.ids.remote) es) (sym (new.flight id)) tt;
         };
-        early = λ none. record { handshake = new.handshake; one_rtt = new.one_rtt; remote = ap (λ (y : ConnectionIds). y.remote) new.ids };
+        early = λ none. record { handshake = new.handshake; one_rtt = new.one_rtt; only = remote; remote = ap (λ (y : ConnectionIds). y.remote) new.ids };
       }
 
   new_used : (s : View t) → HasNewIds s → CarriesUsed s
@@ -205,11 +211,11 @@ module _ {t : Types} (m : Meaning t) where
 
   -- the id that packets carry is known, and has the number in use
   pub run_used : (k : ℕ) (s : View t) (is : List Input) (xs : List TraceStep) (s' : View t) → Run m k s is xs s' → HasNewIds s →
-      IsPeers s.paths.current.remote_cid s'.paths.peer_cid s'.setup.peer (given_to_ids (deeds_of xs)) (active_seq_of s'.lower.ids.remote) s'.paths.current.remote_cid
+      IsPeers s.paths.current.remote_cid (chosen_in s') s'.setup.peer (given_to_ids (deeds_of xs)) (active_seq_of s'.lower.ids.remote) s'.paths.current.remote_cid
   run_used k s is xs s' r new =
-      let known : IsPeers s.paths.current.remote_cid s'.paths.peer_cid s'.setup.peer (given_to_ids (deeds_of xs)) (active_seq_of s'.lower.ids.remote) (active_of s'.lower.ids.remote) =
-      active_known (IsPeers s.paths.current.remote_cid s'.paths.peer_cid s'.setup.peer (given_to_ids (deeds_of xs))) s'.lower.ids.remote (run_holds k s is xs s' r new).holds.stands.fine.peers in
-      subst (λ (id : List ℕ). IsPeers s.paths.current.remote_cid s'.paths.peer_cid s'.setup.peer (given_to_ids (deeds_of xs)) (active_seq_of s'.lower.ids.remote) id)
+      let known : IsPeers s.paths.current.remote_cid (chosen_in s') s'.setup.peer (given_to_ids (deeds_of xs)) (active_seq_of s'.lower.ids.remote) (active_of s'.lower.ids.remote) =
+      active_known (IsPeers s.paths.current.remote_cid (chosen_in s') s'.setup.peer (given_to_ids (deeds_of xs))) s'.lower.ids.remote (run_holds k s is xs s' r new).holds.stands.fine.peers in
+      subst (λ (id : List ℕ). IsPeers s.paths.current.remote_cid (chosen_in s') s'.setup.peer (given_to_ids (deeds_of xs)) (active_seq_of s'.lower.ids.remote) id)
       (sym ((run_ids m k s is xs s' r).carried (new_used s new)).used) known
 
   pub run_retires : (k : ℕ) (s : View t) (is : List Input) (xs : List TraceStep) (s' : View t) → Run m k s is xs s' → HasNewIds s → AllNameBelow (active_seq_of s'.lower.ids.remote) (frames_sealed (deeds_of xs))

@@ -20,10 +20,10 @@ use Rattle.qc_state.specs.declared.life.ConnectionError.{ConnectionError}
 use Rattle.qc_state.specs.Ids.{insert_stop, retire_stop, switches_for}
 use Rattle.qc_state.specs.Life.{is_open}
 use Rattle.qc_state.specs.Lower.{handed_stop, ready_bytes, stream_of}
-use Rattle.qc_state.specs.Moves.{Ack, Arm, Come, Establish, Fix, Forget, Give, Hand, Insert, IsTold, Issue, Learn, MayMove, Move, Owe, PeerCloses, Read, Ready, Retire, Shut, Switch, Tell, Write, keys_move, life_move, lower_move, move_to, numbers_move, paths_move, setup_move, state_move, timers_move, waiting_move}
+use Rattle.qc_state.specs.Moves.{Ack, Arm, Come, Establish, Fix, Forget, Give, Hand, Insert, IsTold, Issue, Learn, MayMove, Move, Owe, PeerCloses, Read, Ready, Retire, Shut, Switch, Tell, Write, keys_move, life_move, lower_move, move_to, numbers_move, paths_move, setup_move, state_move, timers_move, waiting_move, Renew}
 use Rattle.qc_state.specs.Numbers.{next_number}
 use Rattle.qc_state.specs.Progress.{progress_after}
-use Rattle.qc_state.specs.Receiving.{Behind, Closes, Course, Ended, Ends, Goes, Reads, acked_after, answered_after, applied_after, bytes_given, close_after, close_given, closed_in_data, confirmed_after, course_with, crypto_stop, end_after, ended_by, frame_after, handed_after, inserted_after, items_after, kept_after, left_after, payload_after, rearmed_after, refused_after, retired_after, settled_after, stop_in, switched_after}
+use Rattle.qc_state.specs.Receiving.{Behind, Closes, Course, Ended, Ends, Goes, Reads, acked_after, answered_after, applied_after, bytes_given, close_after, close_given, token_given, closed_in_data, confirmed_after, course_with, crypto_stop, end_after, ended_by, frame_after, handed_after, inserted_after, items_after, kept_after, left_after, payload_after, rearmed_after, refused_after, retired_after, settled_after, stop_in, switched_after}
 use Rattle.qc_state.specs.Recovering.{settled_by}
 use Rattle.qc_state.specs.Stopping.{encoding_error_at, given_after, stopped_after}
 use Rattle.qc_state.specs.Types.{Types, Meaning}
@@ -38,6 +38,7 @@ abbrev pub IsEasy : {t : Types} → Move t → Type 0
 IsEasy (Insert new) = ⊥
 IsEasy (Learn p) = ⊥
 IsEasy (Fix cid) = ⊥
+IsEasy (Renew time cid token keys) = ⊥
 IsEasy (Write bytes keys session) = ⊥
 IsEasy Establish = ⊥
 IsEasy (Issue time ids) = ⊥
@@ -48,6 +49,7 @@ pub ending_easy : {t : Types} (x : Move t) → IsEnding x → IsEasy x
 ending_easy (Insert new) h = absurd h
 ending_easy (Learn p) h = absurd h
 ending_easy (Fix cid) h = absurd h
+ending_easy (Renew time cid token keys) h = absurd h
 ending_easy (Write bytes keys session) h = absurd h
 ending_easy Establish h = absurd h
 ending_easy (Issue time ids) h = absurd h
@@ -159,6 +161,10 @@ module _ {t : Types} (m : Meaning t) (R : At t → At t → Type 0) (here : (a :
   unfolding close_given
   close_told f a = move (Tell (did.Gave layer.Life (spelling f))) a tt tt
 
+  token_told : (f : FrameValue) (a : At t) → R a (token_given f a)
+  unfolding token_given
+  token_told f a = move (Tell (did.Gave layer.Store (spelling f))) a tt tt
+
   close : (coming : Coming) (id : SpaceId) (f : FrameValue) (why : ConnectionError) (a : At t) → Leaves a (close_after coming id f why a)
   close coming Initial f why a = next a (close_given f a) _ (close_told f a) (left coming.time why (close_given f a))
   close coming Handshake f why a = next a (close_given f a) _ (close_told f a) (left coming.time why (close_given f a))
@@ -190,6 +196,7 @@ module _ {t : Types} (m : Meaning t) (R : At t → At t → Type 0) (here : (a :
   applied coming id (frames.Ack ack) a = acked coming.time id ack a
   applied coming id (frames.Crypto offset body) a = stops coming.time (crypto_stop a.state id offset body) (kept_after m coming id offset body) a (crypto coming id offset body a)
   applied coming id frames.HandshakeDone a = confirmed coming.time a
+  applied coming id (frames.NewToken token) a = token_told (frames.NewToken token) a
   applied coming id (frames.ConnectionClose code type reason) a = close coming id (frames.ConnectionClose code type reason) _ a
   applied coming id (frames.ApplicationClose code reason) a = close coming id (frames.ApplicationClose code reason) _ a
   applied coming id (frames.ResetStream stream code size) a = handed coming.time (frames.ResetStream stream code size) a

@@ -175,6 +175,15 @@ lost_in_awaited o w (e ∷ es) kept h =
     (λ x. more_awaited (all_again w e.1.frames).crypto _ (lost_in_more (all_again w e.1.frames) es) o (all_again_awaited o w e.1.frames kept x))
     (λ x. lost_in_awaited o (all_again w e.1.frames) es ((all_again_more w e.1.frames).kept o kept) x) h
 
+-- where all that was sealed is lost, each byte that is kept waits
+pub all_lost_awaited : (o : ℕ) (b : Buffer) → is_kept o b.kept ≡ true → is_awaited o (range_lost 0 b.sent b) ≡ true
+unfolding range_lost
+all_lost_awaited o b kept = by_place (nat_le b.sent o) refl
+  where
+    by_place : (c : Bool) → nat_le b.sent o ≡ c → (nat_le b.sent o || is_lost o (marked true 0 (min b.sent b.sent) b.kept)) ≡ true
+    by_place true is = or_left (nat_le b.sent o) _ is
+    by_place false is = or_right (nat_le b.sent o) _ (lost_there o 0 (min b.sent b.sent) b.kept (omega arith) (grind (arith, nat_tests)) kept)
+
 -- ---- frames that are sealed
 
 pub sent_grown : (start end : ℕ) (b : Buffer) → b.sent ≤ b.written → sent_with start end b.sent b.written ≤ b.written

@@ -1,9 +1,9 @@
 -- Over a run each byte that the session wrote, in a space with keys, waits, is in flight or was acknowledged, while the connection is open.
 use Rattle.std.proofs.Common.{◌≡◌, ℕ, ◌+◌, ◌≤◌, ◌⊎◌, inl, inr, List, [], ◌∷◌, ◌++◌, refl, ap, sym, ◌∙◌, subst, Bool, true, false, if◌then◌else◌, append_assoc, append-nil}
-use Rattle.std.specs.Prelude.{◌-◌, is_none, IsPermutation}
+use Rattle.std.specs.Prelude.{◌-◌, ◌<◌, is_none, IsPermutation}
 use Rattle.std.specs.List.{list_any}
 use Rattle.qc_base.specs.declared.side.SpaceId.{SpaceId}
-use Rattle.qc_base.specs.declared.side.SpaceId.TheVariants.{«Data»}
+use Rattle.qc_base.specs.declared.side.SpaceId.TheVariants.{Initial, Handshake, «Data»}
 use Rattle.qc_flight.specs.Packets.{Entry}
 use Rattle.qc_flight.specs.declared.sent.SentPacket.{SentPacket}
 use Rattle.qc_frame.specs.Frame.{AckValue, FrameValue}
@@ -15,7 +15,7 @@ use Rattle.qc_recovery.specs.Steps.{After, FiredAfter, space_dropped}
 use Rattle.qc_recovery.specs.Steps as recovery
 use Rattle.qc_recovery.specs.declared.recovery.Recovery.{Recovery}
 use Rattle.qc_recovery.proofs.RunsSettle.{put_flight}
-use Rattle.qc_send_stream.specs.Buffer.{Buffer}
+use Rattle.qc_send_stream.specs.Buffer.{Buffer, range_lost}
 use Rattle.qc_state.specs.declared.form.Form.{Form}
 use Rattle.qc_state.specs.declared.spaces.Spaces.{Spaces}
 use Rattle.qc_state.specs.declared.waiting.SpaceWaiting.{SpaceWaiting}
@@ -24,13 +24,14 @@ use Rattle.qc_laws.specs.CryptoLaws.{BytesHold, CryptoHolds, CryptoKept, KeepsBy
 use Rattle.qc_state.specs.Flight.{flown_packet}
 use Rattle.qc_state.specs.Forms.{number_space, is_early}
 use Rattle.qc_state.specs.Spaces.{is_space, space_of, with_space}
-use Rattle.qc_state.specs.Waiting.{ack_released, acked_in, bundle_next, came_in, close_begun, crypto_more, crypto_written, done_asked, frames_again, lost_in, nothing_left, packet_came, packet_told, packets_acked, packets_lost, ping_asked, probe_spent, released, space_left, waiting_without, without_all}
+use Rattle.qc_state.specs.Waiting.{ack_released, acked_in, bundle_next, bytes_again, came_in, close_begun, crypto_more, crypto_written, done_asked, frames_again, hello_again, lost_in, nothing_left, packet_came, packet_told, packets_acked, packets_lost, ping_asked, probe_spent, released, space_left, waiting_without, without_all}
 use Rattle.qc_path.specs.Arrived.{arrived}
 use Rattle.qc_state.specs.declared.deeds.Did.{Did}
 use Rattle.qc_state.specs.declared.deeds.Did.TheVariants as did
 use Rattle.qc_state.specs.declared.deeds.Layer.TheVariants as layer
 use Rattle.qc_state.specs.declared.input.Input.{Input}
 use Rattle.qc_state.specs.declared.keys.KeyGroup.{KeyGroup}
+use Rattle.qc_state.specs.declared.keys.SpaceKeys.{SpaceKeys}
 use Rattle.qc_state.specs.declared.life.Life.{Life}
 use Rattle.qc_state.specs.declared.lower.Lower.{Lower}
 use Rattle.qc_state.specs.declared.trace.Step.{Step}
@@ -40,7 +41,7 @@ use Rattle.qc_state.specs.Headline.{deeds_of}
 use Rattle.qc_state.specs.Keys.{NewKeys, failure_counted, has_keys, keys_given, epoch_in, key_acked, key_discarded, key_opened, key_updated}
 use Rattle.qc_state.specs.Life.{connected_reported, data_ready, drained_reported, identifiers_wanted, is_open, life_closed, life_drained, life_established, life_raised, lost_reported, ready_reported, reason_given, token_learned, notice_reported, notices_reported, all_heard_reported, heard_reported}
 use Rattle.qc_state.specs.Lower.{bytes_came, flight_dropped, packet_flown, packets_settled, session_read, session_wrote, timer_fired, limits_learned, frame_handed, streams_closed, streams_stepped, event_told, events_told, datagrams_stepped, frames_sealed, ids_stepped}
-use Rattle.qc_state.specs.Moves.{Accept, Ack, AreNext, Ask, Begin, Clock, Confirm, PeerClosesToo, Establish, Fail, Fire, Forget, Give, PeerCloses, MayMove, Move, Owe, Raise, Release, ReportConnected, ReportDrained, ReportLost, ReportReady, ReportNotice, ReportNotices, Seal, Shut, Take, Write, arrival_of, keys_move, life_move, lower_move, paths_move, state_move, waiting_move, ReportStream, ReportStreams, ReportHeard, ReportAllHeard, Hand, Insert, Switch, Retire, Unseal, Discard, Update}
+use Rattle.qc_state.specs.Moves.{Accept, Ack, AreNext, Ask, Begin, Clock, Confirm, PeerClosesToo, Establish, Fail, Fire, Forget, Give, PeerCloses, MayMove, Move, Owe, Raise, Release, ReportConnected, ReportDrained, ReportLost, ReportReady, ReportNotice, ReportNotices, Seal, Shut, Take, Write, arrival_of, keys_move, life_move, lower_move, paths_move, state_move, waiting_move, ReportStream, ReportStreams, ReportHeard, ReportAllHeard, Hand, Insert, Switch, Retire, Unseal, Discard, Update, Renew}
 use Rattle.qc_state.specs.Numbers.{next_number}
 use Rattle.qc_state.specs.Numbers as numbers
 use Rattle.qc_state.specs.Offers.{packet_begun}
@@ -58,9 +59,9 @@ use Rattle.qc_laws.proofs.KnownMoves.{IsFiredBy, IsKnownMove, IsSettledBy}
 use Rattle.qc_state.proofs.Probed.{begun_holds, begun_streams}
 use Rattle.qc_state.proofs.OpenPackets.{IsUnacked}
 use Rattle.qc_laws.proofs.RecoveryFold.{Covers, covers_next, covers_same, fold_from, input_part, kept_same, recovers_by}
-use Rattle.qc_state.proofs.KeySteps.{acked_moves, discarded_moves, opened_moves, same_keys, updated_moves}
+use Rattle.qc_state.proofs.KeySteps.{acked_moves, discarded_moves, opened_moves, same_keys, updated_moves, renewed_highest, renewed_keys}
 use Rattle.qc_state.proofs.Transmitted.{IsSealable}
-use Rattle.qc_laws.proofs.CryptoBuffers.{More, crypto_more_holds, crypto_more_sent, lost_in_more, more_here, more_next, more_same}
+use Rattle.qc_laws.proofs.CryptoBuffers.{More, all_lost_awaited, crypto_more_holds, crypto_more_sent, lost_grows, lost_in_more, more_here, more_next, more_same, or_left}
 use Rattle.qc_laws.proofs.CryptoPlaces.{FiresIn, ack_flight, ack_other, acked_crypto, apart_lower, apart_values, bundled_spaces, came_crypto, dropped_highest, dropped_keys, failed_keys, fire_kept, fired_flight, flown_lower, given_above, given_keys, given_open, here_values, in_other, in_same, left_counts, more_bytes, narrow, none_written, not_above, put_again, put_crypto, put_other, rank_other, same_or, sealed_apart, sealed_stream, settled_bytes, settled_other, settled_stream, used_highest, used_keys, written_same}
 use Rattle.qc_state.specs.Datagrams.{tells_datagram}
 use Rattle.qc_laws.proofs.StreamCalls.{heard_state, named_state, retired_state}
@@ -98,6 +99,7 @@ module _ {t : Types} where
   IsStill (Take id fs) = ⊥
   IsStill (Seal time form n size fs) = ⊥
   IsStill (Forget id) = ⊥
+  IsStill (Renew time cid token keys) = ⊥
   IsStill (Ack id n after) = ⊥
   IsStill (Fire after) = ⊥
   IsStill (Write bytes keys session) = ⊥
@@ -118,6 +120,7 @@ module _ {t : Types} where
   still_crypto (Take space fs) s id h = absurd h
   still_crypto (Seal time form n size fs) s id h = absurd h
   still_crypto (Forget space) s id h = absurd h
+  still_crypto (Renew time cid token keys) s id h = absurd h
   still_crypto (Ack space n after) s id h = absurd h
   still_crypto (Fire after) s id h = absurd h
   still_crypto (Write bytes keys session) s id h = absurd h
@@ -130,6 +133,7 @@ module _ {t : Types} where
   still_lower (Take space fs) s h = absurd h
   still_lower (Seal time form n size fs) s h = absurd h
   still_lower (Forget space) s h = absurd h
+  still_lower (Renew time cid token keys) s h = absurd h
   still_lower (Ack space n after) s h = absurd h
   still_lower (Fire after) s h = absurd h
   still_lower (Write bytes keys session) s h = absurd h
@@ -142,6 +146,7 @@ module _ {t : Types} where
   still_highest (Take space fs) s h = absurd h
   still_highest (Seal time form n size fs) s h = absurd h
   still_highest (Forget space) s h = absurd h
+  still_highest (Renew time cid token keys) s h = absurd h
   still_highest (Ack space n after) s h = absurd h
   still_highest (Fire after) s h = absurd h
   still_highest (Write bytes keys session) s h = absurd h
@@ -158,6 +163,7 @@ module _ {t : Types} where
   still_keys (Take space fs) s id h k = absurd h
   still_keys (Seal time form n size fs) s id h k = absurd h
   still_keys (Forget space) s id h k = absurd h
+  still_keys (Renew time cid token keys) s id h k = absurd h
   still_keys (Ack space n after) s id h k = absurd h
   still_keys (Fire after) s id h k = absurd h
   still_keys (Write bytes keys session) s id h k = absurd h
@@ -218,6 +224,25 @@ module _ {t : Types} where
             more_bytes before [] (crypto_of id s) _ (flight_of id s) _ (more_same (crypto_of id s) _ (ap (λ (w : SpaceWaiting). w.crypto) (put_other id space s.waiting.spaces (nothing_left (space_of s.waiting.spaces space)) both.0)))
             (put_flight id space (space_dropped (recovery.space_of space s.lower.recovery)) s.lower.recovery ∙ ap (λ (b : Bool). if b then (space_dropped (recovery.space_of space s.lower.recovery)).flight else flight_of id s) (rank_other id space both.0)) (h.holds o both.1);
       }
+
+  -- a Retry was taken: the Initial space begins anew, and the hello waits from its first byte on
+  renew_holds : (time : ℕ) (cid token : List ℕ) (keys : SpaceKeys t.H t.P) (s : View t) (id : SpaceId) (before : List Entry) → CryptoKept id before s → CryptoKept id (before ++ []) (state_move (Renew time cid token keys) s)
+  unfolding state_move waiting_move lower_move keys_move life_move hello_again bytes_again flight_dropped dropped_after frames_sealed ids_stepped
+  renew_holds time cid token keys s Initial before h =
+      let b : Buffer = crypto_of Initial s in
+      let more : More b (range_lost 0 b.sent b) = lost_grows 0 b.sent b in
+      record {
+        sent = subst (λ (n : ℕ). n ≤ (range_lost 0 b.sent b).written) (sym more.sent) (subst (λ (n : ℕ). b.sent ≤ n) (sym more.written) h.sent);
+        above = λ e. more.written ∙ h.above (ap (λ (x : SpaceId). is_below x Initial) (sym (renewed_highest s.keys keys)) ∙ e);
+        holds = λ o k. let held : BytesHold before b (flight_of Initial s) = h.holds o (sym (renewed_keys s.keys keys Initial) ∙ k) in record {
+          kept = λ n low. more.kept n (held.kept n (subst (λ (m : ℕ). n < m) more.written low));
+          bytes = λ n low. or_left _ _ (all_lost_awaited n b (held.kept n (subst (λ (m : ℕ). n < m) more.written low)));
+        };
+      }
+  renew_holds time cid token keys s Handshake before h =
+      same_holds Handshake before s (state_move (Renew time cid token keys) s) (record { more = more_here (crypto_of Handshake s); flight = refl; highest = renewed_highest s.keys keys; keys = λ k. sym (renewed_keys s.keys keys Handshake) ∙ k; opened = λ o. o }) h
+  renew_holds time cid token keys s Data before h =
+      same_holds «Data» before s (state_move (Renew time cid token keys) s) (record { more = more_here (crypto_of «Data» s); flight = refl; highest = renewed_highest s.keys keys; keys = λ k. sym (renewed_keys s.keys keys «Data») ∙ k; opened = λ o. o }) h
 
   -- ---- what is acknowledged and lost
 
@@ -307,6 +332,7 @@ module _ {t : Types} where
   move_bytes m (Take space fs) s k u may id before h = absurd k
   move_bytes m (Seal time form n size fs) s k u may id before h = absurd k
   move_bytes m (Forget space) s k u may id before h = forget_holds space s id before h
+  move_bytes m (Renew time cid token keys) s k u may id before h = renew_holds time cid token keys s id before h
   move_bytes m (Ack space n after) s k u may id before h = absurd u
   move_bytes m (Fire after) s k u may id before h = fire_holds m after s id before k h
   move_bytes m (Begin space opens) s k u may id before h = same_holds id before s _ (begin_same space opens s id) h

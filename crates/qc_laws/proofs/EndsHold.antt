@@ -22,7 +22,7 @@ use Rattle.qc_laws.specs.EndLaws.{EndHolds, Ends, NoTimer}
 use Rattle.qc_state.specs.Forms.{number_space}
 use Rattle.qc_state.specs.Life.{connected_reported, data_ready, drained_reported, identifiers_wanted, is_closed, is_drained, is_open, life_closed, life_drained, life_established, life_raised, lost_reported, rank_of, ready_reported, reason_given, token_learned, notice_reported, notices_reported, all_heard_reported, is_over}
 use Rattle.qc_state.specs.Keys.{ring_of, sets_floor}
-use Rattle.qc_state.specs.Moves.{Probe, Accept, Ack, Arm, Ask, Begin, Clock, Come, Confirm, PeerClosesToo, Enter, Establish, Expect, Fail, Finish, Fire, Fix, Forget, Give, Hear, IsArmed, Learn, PeerCloses, MayMove, Move, Owe, Pace, Raise, Read, Ready, Release, ReportConnected, ReportDrained, ReportLost, ReportReady, ReportNotice, ReportNotices, Say, Seal, Shut, Skip, Take, Tell, Token, Want, Write, keys_move, life_move, move_to, numbers_move, state_move, timers_move, waiting_move, Call, Hand, ReportStream, ReportStreams, Post, ReportHeard, ReportAllHeard, Insert, Switch, Retire, Issue, Outlive, Hold, Spend, Discard, Unseal, Update}
+use Rattle.qc_state.specs.Moves.{Probe, Accept, Ack, Arm, Ask, Begin, Clock, Come, Confirm, PeerClosesToo, Enter, Establish, Expect, Fail, Finish, Fire, Fix, Forget, Give, Hear, IsArmed, Learn, PeerCloses, MayMove, Move, Owe, Pace, Raise, Read, Ready, Release, ReportConnected, ReportDrained, ReportLost, ReportReady, ReportNotice, ReportNotices, Say, Seal, Shut, Skip, Take, Tell, Token, Want, Write, keys_move, life_move, move_to, numbers_move, state_move, timers_move, waiting_move, Call, Hand, ReportStream, ReportStreams, Post, ReportHeard, ReportAllHeard, Insert, Switch, Retire, Issue, Outlive, Hold, Spend, Discard, Unseal, Update, Renew}
 use Rattle.qc_state.specs.Numbers.{next_number}
 use Rattle.qc_state.specs.Offers.{packet_begun}
 use Rattle.qc_state.specs.Recovering.{loss_time, probe_timeout_now}
@@ -32,7 +32,7 @@ use Rattle.qc_state.specs.Setup.{idle_limit_now}
 use Rattle.qc_state.specs.Timers.{clock_set, timers_acking, timers_armed, timers_closing, timers_held, timers_paced, timers_released, timers_sealed, timers_stopped, timers_issued, timers_outlived, timers_keeping, timers_discarded}
 use Rattle.qc_state.specs.Types.{Types, Meaning}
 use Rattle.qc_state.specs.View.{View, At}
-use Rattle.qc_state.specs.Waiting.{ack_released, bundle_next, close_begun, crypto_written, done_asked, fired_in, packet_came, packet_told, packets_acked, frames_again, packets_lost, ping_asked, probe_spent, probes_added, space_left, waiting_without}
+use Rattle.qc_state.specs.Waiting.{ack_released, bundle_next, close_begun, crypto_written, done_asked, fired_in, packet_came, packet_told, packets_acked, frames_again, packets_lost, ping_asked, probe_spent, probes_added, space_left, waiting_without, hello_again}
 use Rattle.qc_laws.proofs.Inputs.{IsMade, holds_input}
 use Rattle.qc_laws.proofs.KnownMoves.{IsKnownMove}
 use Rattle.qc_state.proofs.Probed.{begun_holds}
@@ -198,7 +198,7 @@ module _ {t : Types} where
       }
 
   move_keeps : (x : Move t) → IsMade x → (a : At t) → MayMove x a.state → Keeps a (move_to x a)
-  unfolding MayMove move_to state_move life_move timers_move waiting_move ping_asked waiting_without space_left packet_came packets_lost packets_acked ack_released crypto_written done_asked life_established life_drained life_closed life_raised data_ready token_learned identifiers_wanted reason_given timers_armed timers_paced timers_held timers_released timers_outlived timers_stopped timers_closing timers_discarded close_begun
+  unfolding MayMove move_to state_move life_move timers_move waiting_move ping_asked waiting_without space_left packet_came packets_lost packets_acked ack_released crypto_written done_asked life_established life_drained life_closed life_raised data_ready token_learned identifiers_wanted reason_given timers_armed timers_paced timers_held timers_released timers_outlived timers_stopped timers_closing timers_discarded close_begun hello_again
   move_keeps (Clock time) r a may = absurd may
   move_keeps (Ask id) r a may = λ h. h
   move_keeps (Take id fs) r a may = λ h. h
@@ -207,6 +207,7 @@ module _ {t : Types} where
   move_keeps (Enter id n v) r a may = λ h. h
   move_keeps (Expect token) r a may = λ h. h
   move_keeps Fail r a may = λ h. h
+  move_keeps (Renew time cid token keys) r a may = λ h. h
   move_keeps (Unseal time n which fresh session) r a may = λ h. kept_holds (sets_floor which fresh (ring_of a.state.keys)) a.state.life.state a.state.timers (probe_timeout_now a.state «Data») time a.state.waiting.close_owed (not_drained a.state.life.state may) h
   move_keeps (Update fresh session) r a may = λ h. h
   move_keeps Discard r a may = λ h. record { closing = h.closing; ended = λ d. none_discarded a.state.timers (h.ended d); owed = h.owed }

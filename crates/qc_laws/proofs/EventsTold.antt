@@ -19,7 +19,7 @@ use Rattle.qc_state.specs.declared.trace.Step.{Step}
 use Rattle.qc_laws.specs.EventLaws.{EachTells, OnlyDoneWaits, TellsDone, TellsOnce, Untold, all_told, connections_in, endpoint_events_of, ends_in, events_of, losses_in, once, rises_to, untold_of, is_heard}
 use Rattle.qc_state.specs.Headline.{LifeRises, LosesOnce, RisesFrom, deeds_of, lives_in, reasons_in}
 use Rattle.qc_state.specs.Life.{connected_event, connected_reported, data_ready, drained_event, drained_reported, event_if, identifiers_wanted, is_drained, life_closed, life_drained, life_established, life_raised, lost_event, lost_reported, more_heard, rank_of, ready_event, ready_reported, reason_given, token_learned, notices_reported, all_heard_reported, datagram_heard, retirement_told, token_told}
-use Rattle.qc_state.specs.Moves.{IsTold, MayMove, Move, Accept, Clock, PeerClosesToo, Enter, Establish, Give, PeerCloses, Raise, Ready, ReportConnected, ReportDrained, ReportLost, ReportReady, ReportNotice, ReportNotices, Say, Seal, Shut, Take, Tell, Token, Want, deeds_move, life_move, move_to, state_move, Hand, ReportStream, ReportStreams, ReportHeard, ReportAllHeard, told_to_streams, Insert, Switch, Retire}
+use Rattle.qc_state.specs.Moves.{IsTold, MayMove, Move, Accept, Clock, PeerClosesToo, Enter, Establish, Give, PeerCloses, Raise, Ready, ReportConnected, ReportDrained, ReportLost, ReportReady, ReportNotice, ReportNotices, Say, Seal, Shut, Take, Tell, Token, Want, deeds_move, life_move, move_to, state_move, Hand, ReportStream, ReportStreams, ReportHeard, ReportAllHeard, told_to_streams, Insert, Switch, Retire, Renew}
 use Rattle.qc_state.specs.Polls.{endpoint_events, waiting_events}
 use Rattle.qc_state.specs.Run.{IsStep, Ran, Run, began, called, input_after, reported, step_after, time_of, IsAllowed}
 use Rattle.qc_state.specs.Types.{Types, Meaning}
@@ -255,6 +255,7 @@ module _ {t : Types} where
   life_waits (Seal time form n size fs) s r h w = same_waits _ s.life refl refl refl w
   life_waits (Enter id n v) s r h w = same_waits _ s.life refl refl refl w
   life_waits (Accept time id n e g v) s r h w = same_waits _ s.life refl refl refl w
+  life_waits (Renew time cid token keys) s r h w = same_waits _ s.life refl refl refl w
   life_waits (Say q) s r h w = same_waits _ s.life refl refl refl w
   life_waits (Tell d) s r h w = told_waits d s.life h w
   life_waits (Hand frame) s r h w =

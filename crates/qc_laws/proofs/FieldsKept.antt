@@ -11,7 +11,7 @@ use Rattle.qc_path.specs.Arrived.{arrived}
 use Rattle.rand_core.specs.Stream.{Stream}
 use Rattle.qc_recovery.specs.declared.calls.Fired.{Fired}
 use Rattle.qc_recovery.specs.declared.calls.Fired.TheVariants as fired
-use Rattle.qc_send_stream.specs.Buffer.{Buffer, bytes_written, discarded}
+use Rattle.qc_send_stream.specs.Buffer.{Buffer, bytes_written, discarded, range_lost}
 use Rattle.qc_state.specs.declared.form.Form.{Form}
 use Rattle.qc_state.specs.declared.input.Input.{Input}
 use Rattle.qc_state.specs.declared.setup.Setup.{Setup}
@@ -21,17 +21,17 @@ use Rattle.qc_state.specs.declared.waiting.SpaceWaiting.{SpaceWaiting}
 use Rattle.qc_state.specs.declared.waiting.Waiting.{Waiting}
 use Rattle.qc_state.specs.Acks.{is_ack}
 use Rattle.qc_state.specs.Forms.{number_space}
-use Rattle.qc_state.specs.Moves.{Accept, Ack, Ask, Begin, Clock, Confirm, Expect, Fire, Forget, Learn, MayMove, Move, Release, Seal, Skip, Take, Write, arrival_of, move_to, setup_move, state_move, waiting_move}
+use Rattle.qc_state.specs.Moves.{Accept, Ack, Ask, Begin, Clock, Confirm, Expect, Fire, Forget, Learn, MayMove, Move, Release, Seal, Skip, Take, Write, arrival_of, move_to, setup_move, state_move, waiting_move, Renew}
 use Rattle.qc_state.specs.Numbers as numbers
 use Rattle.qc_state.specs.Numbers.{next_number}
 use Rattle.qc_state.specs.Offers.{packet_begun}
 use Rattle.qc_state.specs.Run.{IsStep, Run, began, called, reported, step_after, time_of}
 use Rattle.qc_state.specs.Sending.{packet_size}
-use Rattle.qc_state.specs.Setup.{packet_drawn, parameters_known, token_expected, word_drawn}
+use Rattle.qc_state.specs.Setup.{packet_drawn, parameters_known, token_expected, word_drawn, retry_taken}
 use Rattle.qc_state.specs.Spaces.{is_space, space_of, with_space}
 use Rattle.qc_state.specs.Types.{Types, Meaning}
 use Rattle.qc_state.specs.View.{View, At}
-use Rattle.qc_state.specs.Waiting.{ack_released, acked_in, all_again, bundle_next, came_in, close_begun, crypto_more, crypto_written, done_asked, fired_in, frames_again, lost_in, marks_begun, nothing_left, packet_came, packet_told, packets_acked, packets_lost, ping_asked, probe_spent, probes_added, released, space_left, waiting_without, without_all}
+use Rattle.qc_state.specs.Waiting.{ack_released, acked_in, all_again, bundle_next, came_in, close_begun, crypto_more, crypto_written, done_asked, fired_in, frames_again, lost_in, marks_begun, nothing_left, packet_came, packet_told, packets_acked, packets_lost, ping_asked, probe_spent, probes_added, released, space_left, waiting_without, without_all, bytes_again, hello_again}
 use Rattle.qc_state.proofs.Probed.{begun_holds}
 use Rattle.qc_state.proofs.Transmitted.{IsSealable}
 use Rattle.qc_laws.specs.SealLaws.{KeepsFields}
@@ -99,8 +99,8 @@ module _ {t : Types} where
 
   -- ---- moves
 
-  move_fixed : (x : Move t) (s : View t) → (setup_move x s).fixed ≡ s.setup.fixed
-  unfolding setup_move token_expected parameters_known word_drawn packet_drawn
+  pub move_fixed : (x : Move t) (s : View t) → (setup_move x s).fixed ≡ s.setup.fixed
+  unfolding setup_move token_expected parameters_known word_drawn packet_drawn retry_taken
   move_fixed (Expect token) s = refl
   move_fixed (Learn parameters) s = refl
   move_fixed Skip s = refl
@@ -108,13 +108,14 @@ module _ {t : Types} where
   move_fixed _ s = refl
 
   move_short : (m : Meaning t) (x : Move t) (s : View t) (id : SpaceId) → IsKnownMove m x s → IsShort (space_of s.waiting.spaces id) → IsShort (space_of (waiting_move x s).spaces id)
-  unfolding waiting_move ping_asked packet_came came_in done_asked ack_released close_begun space_left nothing_left discarded crypto_written
+  unfolding waiting_move ping_asked packet_came came_in done_asked ack_released close_begun space_left nothing_left discarded crypto_written hello_again bytes_again range_lost
   move_short m (Clock time) s id k h = absurd k
   move_short m (Take space fs) s id k h = absurd k
   move_short m (Seal time form n size fs) s id k h = absurd k
   move_short m (Ask space) s id k h = put_short id space s.waiting.spaces (record (space_of s.waiting.spaces space) { ping = true }) (λ x. x) h
   move_short m (Begin space opens) s id k h = begun_short space opens s id h
   move_short m (Forget space) s id k h = put_short id space s.waiting.spaces (nothing_left (space_of s.waiting.spaces space)) (λ x. x) h
+  move_short m (Renew time cid token keys) s id k h = put_short id Initial s.waiting.spaces (bytes_again (space_of s.waiting.spaces Initial)) (λ x. x) h
   move_short m (Accept time space n e g v) s id k h =
       let w : SpaceWaiting = came_in (is_space space «Data») (arrived n (numbers.came_in s.numbers space)) (arrival_of time n e g) g.mark (space_of s.waiting.spaces space) in
       as_long (space_of (with_space s.waiting.spaces space w) id) (space_of (marks_begun g.mark (with_space s.waiting.spaces space w)) id) (ap (λ (b : Buffer). b.written) (came_crypto g.mark (with_space s.waiting.spaces space w) id)) (put_short id space s.waiting.spaces w (λ x. x) h)

@@ -28,7 +28,7 @@ use Rattle.qc_state.specs.Moves.{Move, Ack, Arm, Come, Confirm, Establish, Forge
 use Rattle.qc_state.specs.Numbers.{next_number, number_acked}
 use Rattle.qc_state.specs.Paths.{path_kept, path_named}
 use Rattle.qc_laws.specs.PieceLaws.{Goes, Last, Outcome, Refused, applied_in, applied_with, close_outcome, gift_of, gifts_of, given_in, kind_outcome, outcome_of, payload_gifts, pieces_in, read_behind, read_outcome, refused_or, session_gift, unless_refused, unless_stopped, view_behind, switched_behind}
-use Rattle.qc_state.specs.Receiving.{acked_after, applied_after, close_given, closed_in_data, confirmed_after, crypto_stop, crypto_stop_of, end_after, expected_below, expected_space, items_after, left_after, payload_after, rearmed_after, settled_after, stop_in, Behind, close_after, ended_by, answered_after, bytes_given, kept_after, frame_after, course_with, handed_after, refused_after, inserted_after, retired_after, switched_after}
+use Rattle.qc_state.specs.Receiving.{acked_after, applied_after, close_given, token_given, closed_in_data, confirmed_after, crypto_stop, crypto_stop_of, end_after, expected_below, expected_space, items_after, left_after, payload_after, rearmed_after, settled_after, stop_in, Behind, close_after, ended_by, answered_after, bytes_given, kept_after, frame_after, course_with, handed_after, refused_after, inserted_after, retired_after, switched_after}
 use Rattle.qc_state.specs.Receiving as receiving
 use Rattle.qc_state.specs.Recovering.{around_of, is_validated_by_peer, settled_by}
 use Rattle.qc_state.specs.Stopping.{encoding_error_at, given_after, stopped_after}
@@ -146,7 +146,7 @@ module _ {t : Types} where
   pub given_quiet : (why : ConnectionError) (a : At t) → Gives [] a (given_after why a)
   given_quiet why a = holds_given (Gives []) gives_here quiet_next ending_quiet why a
 
-  armed_quiet : (time : ℕ) (a : At t) → Gives [] a (armed_after time a)
+  pub armed_quiet : (time : ℕ) (a : At t) → Gives [] a (armed_after time a)
   armed_quiet time a = holds_armed_now (Gives []) gives_here quiet_next ending_quiet time a
 
   left_by : (time : ℕ) (why : ConnectionError) (a : At t) (b : Bool) → Gives [] a (if b then given_after why (move_to (PeerCloses time) a) else a)
@@ -154,7 +154,7 @@ module _ {t : Types} where
   left_by time why a true = let b : At t = move_to (PeerCloses time) a in quiet_next a b _ (gives_move [] (PeerCloses time) a refl refl) (given_quiet why b)
   left_by time why a false = gives_here a
 
-  left_quiet : (time : ℕ) (why : ConnectionError) (a : At t) → Gives [] a (left_after time why a)
+  pub left_quiet : (time : ℕ) (why : ConnectionError) (a : At t) → Gives [] a (left_after time why a)
   unfolding left_after
   left_quiet time why a = left_by time why a (is_open a.state.life.state)
 
@@ -459,6 +459,14 @@ module _ {t : Types} (m : Meaning t) (coming : Coming) (id : SpaceId) where
   unfolding close_given deeds_move
   close_told f a = gives_move (did.Gave layer.Life (spelling f) ∷ []) (Tell (did.Gave layer.Life (spelling f))) a refl refl
 
+  -- a NEW_TOKEN
+  token_leaves : (v : View t) (f : FrameValue) (a : At t) → ((l : Lower t.S) → frame_handed f l ≡ l) → Along v a.state →
+      Gives (did.Gave layer.Store (spelling f) ∷ []) a (token_given f a) × Along (state_move (Hand f) v) (token_given f a).state
+  unfolding token_given deeds_move
+  token_leaves v f a idle along =
+      let gave : Did = did.Gave layer.Store (spelling f) in
+      (gives_move (gave ∷ []) (Tell gave) a refl refl, along_idle f v (token_given f a).state idle (along_tell v gave a along))
+
   last_close : (f : FrameValue) (why : ConnectionError) (a : At t) → Gives (did.Gave layer.Life (spelling f) ∷ []) a (left_after coming.time why (close_given f a))
   last_close f why a = let b : At t = close_given f a in gives_quiet (did.Gave layer.Life (spelling f) ∷ []) a b _ (close_told f a) (left_quiet coming.time why b)
 
@@ -481,6 +489,7 @@ module _ {t : Types} (m : Meaning t) (coming : Coming) (id : SpaceId) where
       (ended_leaves gifts behind o (crypto_stop a.state id offset body) (kept_after m coming id offset body) a (kept_leaves v offset body a along))
   kind_leaves v (frames.Ack ack) a along = ack_leaves v ack a along
   kind_leaves v frames.HandshakeDone a along = done_leaves v a along
+  kind_leaves v (frames.NewToken token) a along = token_leaves v (frames.NewToken token) a (λ l. refl) along
   kind_leaves v (frames.ConnectionClose code type reason) a along =
       close_leaves id v (frames.ConnectionClose code type reason) (lost.ConnectionClosed (record { error_code = code; frame_type = type; reason = reason })) a (λ l. refl) along
   kind_leaves v (frames.ApplicationClose code reason) a along = close_leaves id v (frames.ApplicationClose code reason) (lost.ApplicationClosed (record { error_code = code; reason = reason })) a (λ l. refl) along

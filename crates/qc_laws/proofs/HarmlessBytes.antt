@@ -1,8 +1,11 @@
 -- Datagrams none of whose packets opened change only counts.
 use Rattle.std.proofs.Common.{◌≡◌, ℕ, ◌+◌, ◌≤◌, List, [], ◌∷◌, ◌++◌, length, refl, ap, sym, ◌∙◌, subst, Bool, true, false, Option, Some, None, if◌then◌else◌, append_assoc, append-nil, arith}
+use Rattle.qc_header.specs.declared.protected.ProtectedHeader.TheVariants as protected
+use Rattle.qc_header.specs.declared.protected.ProtectedHeader.{ProtectedHeader}
+use Rattle.qc_base.specs.declared.side.Side.TheVariants.{Client}
 use Rattle.std.proofs.lemmas.List.Elements.{All-head, All-tail}
 use Rattle.std.proofs.lemmas.List.Folds.{list_all-append}
-use Rattle.std.specs.Prelude.{◌&&◌, not, nat_le, Ok, Err}
+use Rattle.std.specs.Prelude.{◌&&◌, not, nat_le, Ok, Err, drop}
 use Rattle.std.specs.List.{All, list_all, list_any}
 use Rattle.std.specs.declared.net.SocketAddr.{SocketAddr}
 use Rattle.qc_base.specs.declared.side.Side.TheVariants.{Server}
@@ -32,22 +35,22 @@ use Rattle.qc_state.specs.declared.timers.Timers.{Timers}
 use Rattle.qc_state.specs.declared.trace.Step.{Step}
 use Rattle.qc_state.specs.declared.transmit.TheConstants.{DATAGRAM_SIZE}
 use Rattle.qc_state.specs.Headline.{deeds_of, is_harmless, is_datagram, OnlyCounts, Harmless}
-use Rattle.qc_state.specs.Keys.{fails_too_often, failure_counted}
-use Rattle.qc_state.specs.Life.{is_handshake, is_over}
-use Rattle.qc_state.specs.Moves.{Move, Accept, Clock, PeerClosesToo, Enter, Expect, Fail, Hear, Owe, Raise, Tell, Unseal, deeds_move, keys_move, life_move, lower_move, move_to, numbers_move, paths_move, setup_move, state_move, timers_move, waiting_move, armed_after, armed_with}
+use Rattle.qc_state.specs.Keys.{fails_too_often, failure_counted, new_keys}
+use Rattle.qc_state.specs.Life.{is_handshake, is_over, is_open}
+use Rattle.qc_state.specs.Moves.{Move, Accept, Clock, PeerClosesToo, Enter, Expect, Fail, Hear, Owe, Raise, Tell, Unseal, deeds_move, keys_move, life_move, lower_move, move_to, numbers_move, paths_move, setup_move, state_move, timers_move, waiting_move, armed_after, armed_with, Renew, PeerCloses}
 use Rattle.qc_state.specs.Opening.{opening_of}
 use Rattle.qc_state.specs.Paths.{is_blocked, path_received, same_address}
-use Rattle.qc_state.specs.Receiving.{accepted_after, admitted_after, counted_after, cut_of, datagram_after, failed_after, first_after, first_token, fixed_after, has_first_ids, heard_after, is_close_item, is_eliciting_item, is_readable, lets_in, opened_token, opening_after, piece_after, piece_told, pieces_after, read_for_close, received_after, signs_of, token_in_first, token_in_items, verdict_after}
+use Rattle.qc_state.specs.Receiving.{accepted_after, admitted_after, counted_after, cut_of, datagram_after, failed_after, first_after, first_token, fixed_after, has_first_ids, heard_after, is_close_item, is_eliciting_item, is_readable, lets_in, opened_token, opening_after, piece_after, piece_told, pieces_after, read_for_close, received_after, signs_of, token_in_first, token_in_items, verdict_after, formed_after, left_after, renewed_after, retried_after, unnumbered_after}
 use Rattle.qc_state.specs.Run.{IsStep, Run, began, called, input_after, reported, step_after}
 use Rattle.qc_state.specs.Setup.{is_first_awaited, token_expected}
-use Rattle.qc_state.specs.Stopping.{key_limit_error, killed_after, stopped_after, update_error, violation_at}
+use Rattle.qc_state.specs.Stopping.{key_limit_error, killed_after, stopped_after, update_error, violation_at, given_after}
 use Rattle.qc_state.specs.Timers.{clock_set, timers_armed}
 use Rattle.qc_state.specs.Types.{Types, Meaning}
 use Rattle.qc_state.specs.Updating.{fresh_by, session_by, unsealed_after}
-use Rattle.qc_state.specs.Verdicts.{verdict_of}
+use Rattle.qc_state.specs.Verdicts.{verdict_of, ids_end, retry_token, unnumbered_verdict}
 use Rattle.qc_state.specs.View.{View, At}
 use Rattle.qc_state.specs.Recovering.{loss_time}
-use Rattle.qc_state.proofs.Ends.{holds_given, holds_initial, holds_stopped}
+use Rattle.qc_state.proofs.Ends.{holds_given, holds_initial, holds_stopped, holds_armed_now}
 use Rattle.qc_state.proofs.OpenPackets.{holds_fixed, holds_payload}
 use Rattle.qc_state.proofs.PacketMoves.{OpenPacket}
 use Rattle.qc_laws.proofs.Receives.{holds_counted}
@@ -211,6 +214,8 @@ module _ {t : Types} where
       deed_harms verdict.Failure k = cc
       deed_harms verdict.BadBits k = cc
       deed_harms verdict.BadUpdate k = cc
+      deed_harms verdict.RetryTaken k = cc
+      deed_harms verdict.Versions k = cc
       deed_harms verdict.Seen k = refl
       deed_harms verdict.ReadForClose k = refl
       deed_harms verdict.NumberOnly k = refl
@@ -246,6 +251,8 @@ module _ {t : Types} where
   harmed_verdict m coming id spin source number payload verdict.Failure a h = cc
   harmed_verdict m coming id spin source number payload verdict.BadBits a h = cc
   harmed_verdict m coming id spin source number payload verdict.BadUpdate a h = cc
+  harmed_verdict m coming id spin source number payload verdict.RetryTaken a h = cc
+  harmed_verdict m coming id spin source number payload verdict.Versions a h = cc
   harmed_verdict m coming id spin source number payload verdict.Seen a h = harmed_move (Tell (did.Piece (Some id) (Some number) verdict.Seen)) a refl
   harmed_verdict m coming id spin source number payload verdict.ReadForClose a h = harmed_closing id number payload a
   harmed_verdict m coming id spin source number payload verdict.NumberOnly a h = harmed_move (Enter id number verdict.NumberOnly) a refl
@@ -307,11 +314,47 @@ module _ {t : Types} where
   tame_opening m coming (Some id) (Opened source token spin which number payload) a = harmed_tame a _ (harmed_opened m coming id spin source token which number payload a)
   tame_opening m coming None (Opened source token spin which number payload) a = tame_move (Tell (did.Piece None None verdict.Ignored)) a (same_tell (did.Piece None None verdict.Ignored) a.state)
 
+  -- a Retry that is taken
+  harmed_retry : (m : Meaning t) (time : ℕ) (cid token : List ℕ) (a : At t) → Harmed a (renewed_after m time cid token a)
+  unfolding renewed_after deeds_move
+  harmed_retry m time cid token a =
+      let renew : Move t = Renew time cid token (new_keys m.seal_limit m.failure_limit (m.initial a.state.lower.session cid Client)) in
+      let b : At t = move_to renew a in
+      harmed_next a b _ (harmed_move renew a refl) (holds_armed_now Grown grown_here grown_next (λ x r c k. grown_move x c) time b)
+
+  -- a list of versions without this end's
+  grown_left : (time : ℕ) (why : ConnectionError) (a : At t) (b : Bool) → Grown a (if b then given_after why (move_to (PeerCloses time) a) else a)
+  grown_left time why a true =
+      let b : At t = move_to (PeerCloses time) a in
+      grown_next a b _ (grown_move (PeerCloses time) a) (holds_given Grown grown_here grown_next (λ x r c k. grown_move x c) why b)
+  grown_left time why a false = grown_here a
+
+  harmed_versions : (time : ℕ) (a : At t) → Harmed a (left_after time lost.VersionMismatch (piece_told None None verdict.Versions a))
+  unfolding left_after deeds_move
+  harmed_versions time a =
+      let d : Did = did.Piece None None verdict.Versions in
+      let b : At t = move_to (Tell d) a in
+      harmed_next a b _ (harmed_move (Tell d) a refl) (grown_left time lost.VersionMismatch b (is_open b.state.life.state))
+
+  -- a packet without a number, by its verdict
+  tame_retried : (m : Meaning t) (time : ℕ) (h : ProtectedHeader) (bytes : List ℕ) (a : At t) → Tame a (retried_after m time h bytes a)
+  tame_retried m time (protected.Retry dst src version) bytes a = harmed_tame a _ (harmed_retry m time src (retry_token (drop (ids_end dst src) bytes)) a)
+  tame_retried m time _ bytes a = tame_here a
+
+  tame_unnumbered : (m : Meaning t) (time : ℕ) (p : Piece) (v : Verdict) (a : At t) → Tame a (unnumbered_after m time p v a)
+  tame_unnumbered m time p verdict.RetryTaken a = tame_retried m time p.header p.bytes a
+  tame_unnumbered m time p verdict.Versions a = harmed_tame a _ (harmed_versions time a)
+  tame_unnumbered m time p _ a = tame_move (Tell (did.Piece None None verdict.Ignored)) a (same_tell (did.Piece None None verdict.Ignored) a.state)
+
+  tame_formed : (m : Meaning t) (coming : Coming) (id : Option SpaceId) (p : Piece) (a : At t) → Tame a (formed_after m coming id p a)
+  tame_formed m coming None p a = tame_unnumbered m coming.time p (unnumbered_verdict m a.state p) a
+  tame_formed m coming (Some id) p a = tame_opening m coming (Some id) (opening_of m a.state p) a
+
   -- a packet, which is ignored where the connection is over
   piece_by : (m : Meaning t) (coming : Coming) (p : Piece) (a : At t) (b : Bool) →
-      Tame a (if b then piece_told (space_of p.header) None verdict.Ignored a else opening_after m coming (space_of p.header) (opening_of m a.state p) a)
+      Tame a (if b then piece_told (space_of p.header) None verdict.Ignored a else formed_after m coming (space_of p.header) p a)
   piece_by m coming p a true = tame_move (Tell (did.Piece (space_of p.header) None verdict.Ignored)) a (same_tell (did.Piece (space_of p.header) None verdict.Ignored) a.state)
-  piece_by m coming p a false = tame_opening m coming (space_of p.header) (opening_of m a.state p) a
+  piece_by m coming p a false = tame_formed m coming (space_of p.header) p a
 
   tame_pieces : (m : Meaning t) (coming : Coming) (items : List DatagramItem) (a : At t) → Tame a (pieces_after m coming items a)
   unfolding piece_after
@@ -378,7 +421,8 @@ module _ {t : Types} where
 
   harmed_piece : (m : Meaning t) (coming : Coming) (p : Piece) (token : List ℕ) (a : At t) → is_over a.state.life.state ≡ false → space_of p.header ≡ Some space.Initial → opened_token (opening_of m a.state p) ≡ Some token → Harmed a (piece_after m coming p a)
   unfolding piece_after
-  harmed_piece m coming p token a over is_initial opened = rw over (harmed_opening m coming (space_of p.header) space.Initial (opening_of m a.state p) token a is_initial opened)
+  harmed_piece m coming p token a over is_initial opened =
+      rw over (subst (λ (x : Option SpaceId). Harmed a (formed_after m coming x p a)) (sym is_initial) (harmed_opening m coming (Some space.Initial) space.Initial (opening_of m a.state p) token a refl opened))
 
   -- that a token is expected leaves what opens
   pub same_opening : (m : Meaning t) (s : View t) (token : List ℕ) (p : Piece) → opening_of m (state_move (Expect token) s) p ≡ opening_of m s p

@@ -76,6 +76,8 @@ is_opened verdict.Ignored = false
 is_opened verdict.Failure = false
 is_opened verdict.BadBits = false
 is_opened verdict.BadUpdate = false
+is_opened verdict.RetryTaken = false
+is_opened verdict.Versions = false
 is_opened _ = true
 
 pub opened_by_row : (new closed early other : Bool) → is_opened (first_row ((not new, verdict.Seen) ∷ (closed, verdict.ReadForClose) ∷ (early, verdict.NumberOnly) ∷ (other, verdict.AckOnly) ∷ []) verdict.Admitted) ≡ true

@@ -14,6 +14,7 @@ use Rattle.qc_recovery.specs.declared.calls.Fired.{Fired}
 use Rattle.qc_recovery.specs.declared.calls.Fired.TheVariants as fired
 use Rattle.qc_state.specs.declared.deeds.Did.{Did}
 use Rattle.qc_state.specs.declared.deeds.Did.TheVariants as did
+use Rattle.qc_state.specs.declared.deeds.Verdict.TheVariants as verdict
 use Rattle.qc_state.specs.declared.deeds.Layer.TheVariants as layer
 use Rattle.qc_state.specs.declared.form.Form.{Form}
 use Rattle.qc_state.specs.declared.input.Input.{Input}
@@ -27,7 +28,7 @@ use Rattle.qc_state.specs.Ids.{active_limit, again_ids, fired_ids, learned_cids,
 use Rattle.qc_state.specs.Keys.{epoch_in}
 use Rattle.qc_state.specs.Forms.{is_early}
 use Rattle.qc_state.specs.Lower.{bytes_came, datagrams_stepped, events_told, flight_dropped, frame_handed, frames_sealed as frames_taken, ids_stepped, limits_learned, packets_settled, session_read, session_wrote, streams_closed, streams_stepped, timer_fired}
-use Rattle.qc_state.specs.Moves.{Ack, Begin, Call, Fire, Fix, Hand, Insert, IsTold, Issue, Learn, MayMove, Move, Outlive, Post, ReportStream, ReportStreams, Retire, Seal, Switch, Take, Tell, Want, deeds_move, keys_move, lower_move, move_to, state_move}
+use Rattle.qc_state.specs.Moves.{Ack, Begin, Call, Fire, Fix, Hand, Insert, IsTold, Issue, Learn, MayMove, Move, Outlive, Post, ReportStream, ReportStreams, Retire, Seal, Switch, Take, Tell, Want, deeds_move, keys_move, lower_move, move_to, state_move, Renew}
 use Rattle.qc_state.specs.Numbers.{next_number}
 use Rattle.qc_state.specs.Offers.{begun_ids, oldest_in, probe_ids, wants_sending}
 use Rattle.qc_state.specs.Run.{IsAllowed, IsStep, Run, began, called, called_all, input_after, reported, time_of}
@@ -58,6 +59,7 @@ given_append (did.Gave layer.Ids body ∷ ds) es = ap (λ (bodies : List (List �
 given_append (did.Gave layer.Session body ∷ ds) es = given_append ds es
 given_append (did.Gave layer.Recovery body ∷ ds) es = given_append ds es
 given_append (did.Gave layer.Life body ∷ ds) es = given_append ds es
+given_append (did.Gave layer.Store body ∷ ds) es = given_append ds es
 given_append (did.Gave layer.Streams body ∷ ds) es = given_append ds es
 given_append (did.Piece space number v ∷ ds) es = given_append ds es
 given_append (did.Sealed space n epoch early fs ∷ ds) es = given_append ds es
@@ -192,6 +194,7 @@ told_are (did.Piece space number v) h k = apart_are [] (did.Piece space number v
 told_are (did.Gave layer.Session body) h k = apart_are [] (did.Gave layer.Session body ∷ []) tt refl refl
 told_are (did.Gave layer.Recovery body) h k = apart_are [] (did.Gave layer.Recovery body ∷ []) tt refl refl
 told_are (did.Gave layer.Life body) h k = apart_are [] (did.Gave layer.Life body ∷ []) tt refl refl
+told_are (did.Gave layer.Store body) h k = apart_are [] (did.Gave layer.Store body ∷ []) tt refl refl
 told_are (did.Gave layer.Ids body) h k = absurd k
 told_are (did.Gave layer.Streams body) h k = absurd k
 told_are _ h k = absurd h
@@ -213,6 +216,7 @@ module _ {t : Types} where
   steps_by (Ack id n r) s = lost_ids r.lost
   steps_by (Fire r) s = fired_ids r.fired
   steps_by (Fix cid) s = Renamed cid ∷ []
+  steps_by (Renew time cid token keys) s = Renamed cid ∷ []
   steps_by (Want time count) s = Asked count ∷ []
   steps_by (Insert new) s = NewCame new ∷ []
   steps_by Switch s = Switched ∷ []
@@ -242,6 +246,7 @@ module _ {t : Types} where
   moved_are m (Ack id n r) s k u may = apart_are (lost_ids r.lost) [] (packets_apart r.lost) refl refl
   moved_are m (Fire r) s k u may = apart_are (fired_ids r.fired) [] (fired_apart r.fired) refl refl
   moved_are m (Fix cid) s k u may = apart_are (Renamed cid ∷ []) [] (tt, tt) refl refl
+  moved_are m (Renew time cid token keys) s k u may = apart_are (Renamed cid ∷ []) (did.Piece None None verdict.RetryTaken ∷ []) (tt, tt) refl refl
   moved_are m (Want time count) s k u may = apart_are (Asked count ∷ []) [] (tt, tt) refl refl
   moved_are m Switch s k u may = apart_are (Switched ∷ []) [] (tt, tt) refl refl
   moved_are m Outlive s k u may = apart_are (Expired ∷ []) [] (tt, tt) refl refl

@@ -32,7 +32,7 @@ use Rattle.qc_state.specs.Flight.{flown_packet}
 use Rattle.qc_state.specs.Forms.{number_space}
 use Rattle.qc_state.specs.Ids.{again_ids, fired_ids, lost_cid, lost_cids, lost_ids, preferred_cid, preferred_steps, sealed_cid, sealed_cids}
 use Rattle.qc_state.specs.Lower.{bytes_came, datagrams_stepped, events_told, flight_dropped, frame_handed, frames_sealed, ids_stepped, limits_learned, packet_flown, packets_settled, session_read, session_wrote, streams_closed, streams_stepped, timer_fired}
-use Rattle.qc_state.specs.Moves.{Probe, Accept, Ack, Begin, Clock, Finish, Fire, Fix, Forget, Hear, Insert, Issue, Learn, MayMove, Move, Outlive, Retire, Say, Seal, Spend, Switch, Take, Want, lower_move, move_to, paths_move, state_move}
+use Rattle.qc_state.specs.Moves.{Probe, Accept, Ack, Begin, Clock, Finish, Fire, Fix, Forget, Hear, Insert, Issue, Learn, MayMove, Move, Outlive, Retire, Say, Seal, Spend, Switch, Take, Want, lower_move, move_to, paths_move, state_move, Renew}
 use Rattle.qc_state.specs.Moves as moves
 use Rattle.qc_state.specs.Numbers.{next_number, received_number}
 use Rattle.qc_state.specs.Offers.{begun_ids, oldest_in, probe_ids, wants_sending}
@@ -218,6 +218,10 @@ module _ {t : Types} (m : Meaning t) where
   ids_move (Probe time n bytes q) s known may = ids_by s _ refl (record { chosen = probed_chosen s.paths time n bytes q; used = ap (λ (p : Path t.C). p.remote_cid) (probed_current s.paths time n bytes q) })
   ids_move (Fix cid) s known may = record {
     chosen = λ other e. cc (may, e);
+    carried = λ k. record { some = renamed_some cid s.lower.ids.remote k.some; used = renamed_active cid s.lower.ids.remote k.some };
+  }
+  ids_move (Renew time cid token keys) s known may = record {
+    chosen = λ other e. e;
     carried = λ k. record { some = renamed_some cid s.lower.ids.remote k.some; used = renamed_active cid s.lower.ids.remote k.some };
   }
   ids_move (Insert new) s known may = record {

@@ -1,6 +1,6 @@
 -- Over a run no Initial packet is sealed by an end that has left the Initial space.
 use Rattle.std.proofs.Common.{◌≡◌, ◌⊎◌, inl, inr, ℕ, ◌+◌, ◌<◌, ◌≤◌, List, [], ◌∷◌, ◌++◌, refl, ap, sym, ◌∙◌, subst, Bool, true, false, Option, Some, None, if◌then◌else◌, append_assoc, append-nil, arith}
-use Rattle.std.specs.Prelude.{◌&&◌, ◌||◌, ◌==◌, not, is_none, is_some}
+use Rattle.std.specs.Prelude.{◌&&◌, ◌||◌, ◌==◌, not, is_none, is_some, option_map}
 use Rattle.std.specs.List.{list_any}
 use Rattle.qc_base.specs.declared.side.Side.{Side}
 use Rattle.qc_base.specs.declared.side.Side.TheVariants.{Client, Server}
@@ -31,16 +31,16 @@ use Rattle.qc_state.specs.declared.transmit.Batch.{Batch}
 use Rattle.qc_state.specs.Forms.{number_space, is_early}
 use Rattle.qc_state.specs.Headline.{deeds_of}
 use Rattle.qc_laws.specs.InitialLaws.{LeavesInitial, NoneInitial, has_left, is_left, leaves_with, seals_initial}
-use Rattle.qc_state.specs.Keys.{NewKeys, NoKeys, HandshakeKeys, DataKeys, count_one, failure_counted, has_keys, key_used, keys_dropped, keys_given, epoch_in, form_in, has_keys_for, key_acked, key_discarded, key_opened, key_updated}
+use Rattle.qc_state.specs.Keys.{NewKeys, NoKeys, HandshakeKeys, DataKeys, count_one, failure_counted, has_keys, key_used, keys_dropped, keys_given, epoch_in, form_in, has_keys_for, key_acked, key_discarded, key_opened, key_updated, initial_renewed}
 use Rattle.qc_state.specs.Life.{all_heard_reported, connected_reported, drained_reported, is_drained, is_open, is_over, life_raised, lost_reported, notice_reported, notices_reported, rank_of, ready_reported, reason_given}
-use Rattle.qc_state.specs.Moves.{Accept, Arm, Ask, Begin, PeerClosesToo, Enter, Establish, Expect, Fail, Finish, Forget, Give, Hold, IsTold, Learn, PeerCloses, MayMove, Move, Owe, Raise, Say, Seal, Shut, Skip, Spend, Take, Tell, Write, accepts, armed_with, deeds_move, keys_move, life_move, move_to, setup_move, state_move, Hand, Call, Post, Insert, Retire, Issue, Unseal, Ack, Discard, Update}
+use Rattle.qc_state.specs.Moves.{Accept, Arm, Ask, Begin, PeerClosesToo, Enter, Establish, Expect, Fail, Finish, Forget, Give, Hold, IsTold, Learn, PeerCloses, MayMove, Move, Owe, Raise, Say, Seal, Shut, Skip, Spend, Take, Tell, Write, accepts, armed_with, deeds_move, keys_move, life_move, move_to, setup_move, state_move, Hand, Call, Post, Insert, Retire, Issue, Unseal, Ack, Discard, Update, Renew}
 use Rattle.qc_state.specs.Numbers.{is_skipped, next_number}
 use Rattle.qc_state.specs.Paths.{is_blocked}
 use Rattle.qc_state.specs.Receiving.{accepted_after, admitted_after, datagram_after, fixed_after, is_close_item, is_eliciting_item, read_for_close, received_after, signs_of, verdict_after}
 use Rattle.qc_state.specs.Run.{IsAllowed, IsStep, Run, began, called, close_after, input_after, reported, step_after, time_of, datagram_limit}
 use Rattle.qc_state.specs.Batches.{batch_grown, is_in_order}
 use Rattle.qc_state.specs.Sending.{Choice, Died, Ending, Going, Held, Hushed, MayAll, MayEnd, MayFollow, MayTransmit, Probed, Sent, Went, begun_after, begun_batch, drops_initial, ending_after, finished_after, flown_after, going_from, gone_after, handshake_left, held_after, initial_left, is_flown, leaves_initial, packet_after, packet_size, packets_after, sealed_in, skipped_after, spared_after, spent_after, told_sent, transmit_after, going_tried, going}
-use Rattle.qc_state.specs.Setup.{packet_drawn, parameters_known, token_expected, word_drawn}
+use Rattle.qc_state.specs.Setup.{packet_drawn, parameters_known, token_expected, word_drawn, retry_taken}
 use Rattle.qc_state.specs.Stopping.{given_after, killed_after}
 use Rattle.qc_state.specs.Spaces.{is_space, space_of}
 use Rattle.qc_state.specs.Timeouts.{timeout_after}
@@ -101,6 +101,15 @@ module _ {H P : Type 0} where
   unfolding failure_counted has_keys has_keys_for form_in
   failed_gone v h = h
 
+  -- keys in the place of others are none where there were none
+  none_renewed : (o : Option (SpaceKeys H P)) (k : SpaceKeys H P) → is_some o ≡ false → is_some (option_map (λ (old : SpaceKeys H P). k) o) ≡ false
+  none_renewed None k h = refl
+  none_renewed (Some old) k h = cc h
+
+  renewed_gone : (v : KeyGroup H P) (k : SpaceKeys H P) → has_keys v Initial ≡ false → has_keys (initial_renewed v k) Initial ≡ false
+  unfolding initial_renewed has_keys has_keys_for form_in
+  renewed_gone v k h = none_renewed v.initial k h
+
 -- ---- moves
 
 module _ {t : Types} where
@@ -117,6 +126,7 @@ module _ {t : Types} where
   move_gone (Seal time form n size fs) a h = key_gone a.state.keys form n h
   move_gone (Forget id) a h = dropped_gone a.state.keys id h
   move_gone Fail a h = failed_gone a.state.keys h
+  move_gone (Renew time cid token keys) a h = renewed_gone a.state.keys keys h
   move_gone (Unseal time n which fresh session) a h = same_keys a.state.keys (key_opened a.state.keys which n fresh) (opened_moves a.state.keys which n fresh) Initial ∙ h
   move_gone (Ack id n r) a h = same_keys a.state.keys (key_acked a.state.keys id n) (acked_moves a.state.keys id n) Initial ∙ h
   move_gone (Update fresh session) a h = same_keys a.state.keys (key_updated a.state.keys fresh) (updated_moves a.state.keys fresh) Initial ∙ h
@@ -126,7 +136,7 @@ module _ {t : Types} where
 
   -- no move changes the side
   move_side : (x : Move t) (a : At t) → side_of (move_to x a) ≡ side_of a
-  unfolding move_to state_move setup_move token_expected parameters_known word_drawn packet_drawn
+  unfolding move_to state_move setup_move token_expected parameters_known word_drawn packet_drawn retry_taken
   move_side x a = side_by x
     where
       side_by : (y : Move t) → (setup_move y a.state).fixed.side ≡ a.state.setup.fixed.side
@@ -170,6 +180,7 @@ module _ {t : Types} where
   quiet_deeds P (Accept time id n e g v) s q = (refl, λ side h. accepted_quiet P id (Some n) v q side h, tt)
   quiet_deeds P (Enter id n v) s q = piece_silent P (Some id) (Some n) v q
   quiet_deeds P (Tell d) s q = told_silent P d q
+  quiet_deeds P (Renew time cid token keys) s q = one_silent P _ refl refl refl
   quiet_deeds P Establish s q = one_silent P (did.Rose 1) refl refl refl
   quiet_deeds P (Shut time close) s q = one_silent P (did.Rose 2) refl refl refl
   quiet_deeds P (PeerCloses time) s q = one_silent P (did.Rose 3) refl refl refl
@@ -308,6 +319,8 @@ module _ {t : Types} where
   verdict_leaves side m o verdict.Failure a q = leaves_here side a
   verdict_leaves side m o verdict.BadBits a q = leaves_here side a
   verdict_leaves side m o verdict.BadUpdate a q = leaves_here side a
+  verdict_leaves side m o verdict.RetryTaken a q = leaves_here side a
+  verdict_leaves side m o verdict.Versions a q = leaves_here side a
   verdict_leaves side m o verdict.Seen a q = move_leaves side (Tell (did.Piece (Some o.space) (Some o.number) verdict.Seen)) refl a
   verdict_leaves side m o verdict.ReadForClose a q =
       let b : At t = move_to (Enter o.space o.number verdict.ReadForClose) a in

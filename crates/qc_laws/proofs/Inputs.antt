@@ -1,10 +1,11 @@
 -- What holds of each move that an input makes holds of the input.
-use Rattle.std.proofs.Common.{◌≡◌, ℕ, List, refl, Bool, true, false, if◌then◌else◌}
+use Rattle.std.proofs.Common.{◌≡◌, ◌⊎◌, inl, inr, ℕ, List, refl, Bool, true, false, if◌then◌else◌}
 use Rattle.qc_frame.specs.Frame.{FrameValue}
 use Rattle.qc_state.specs.declared.form.Form.{Form}
 use Rattle.qc_state.specs.declared.input.Input.{Input}
 use Rattle.qc_state.specs.declared.input.Input.TheVariants as input
 use Rattle.qc_state.specs.declared.life.Close.{Close}
+use Rattle.qc_state.specs.declared.life.ConnectionError.TheVariants.{TimedOut}
 use Rattle.qc_state.specs.declared.life.State.TheVariants.{Drained}
 use Rattle.qc_state.specs.Forms.{number_space}
 use Rattle.qc_state.specs.Headline.{is_datagram}
@@ -21,7 +22,7 @@ use Rattle.qc_state.proofs.Expired.{IsTimed, holds_timeout}
 use Rattle.qc_state.proofs.ReceivedMoves.{IsReceived}
 use Rattle.qc_laws.proofs.Receives.{holds_datagram}
 use Rattle.qc_state.proofs.Telling.{open_rank}
-use Rattle.qc_state.proofs.Transmitted.{IsSealable, IsSending, holds_transmit}
+use Rattle.qc_state.proofs.Transmitted.{IsSealable, IsSending, IsSendingReason, holds_transmit}
 use Rattle.qc_laws.proofs.StreamCalls.{called_input}
 use Rattle.qc_datagrams.specs.Steps as datagrams
 
@@ -41,7 +42,8 @@ IsMade ReportNotices = ⊥
 IsMade ReportDrained = ⊥
 IsMade _ = Unit {0}
 
--- the moves that an input makes which is no datagram: none of them tells of a packet that came, or of what is given to a layer
+-- the moves that an input makes which is no datagram: none of them tells of a packet that came, or of what is given to a layer; and a reason that is
+-- given is that the peer gave no sign, or one of a transmit's
 abbrev pub IsOwn : {t : Types} → Move t → Type 0
 IsOwn (Ask id) = Unit {0}
 IsOwn (Update fresh session) = Unit {0}
@@ -60,7 +62,7 @@ IsOwn (Issue time given) = Unit {0}
 IsOwn Outlive = Unit {0}
 IsOwn (Shut time close) = Unit {0}
 IsOwn (Raise to) = to ≡ Drained
-IsOwn (Give why) = Unit {0}
+IsOwn (Give why) = (why ≡ TimedOut) ⊎ IsSendingReason why
 IsOwn (Spend tokens) = Unit {0}
 IsOwn (Hold until) = Unit {0}
 IsOwn (Finish bytes control) = Unit {0}
@@ -80,7 +82,7 @@ timed_own Release r = tt
 timed_own Outlive r = tt
 timed_own (Want time count) r = tt
 timed_own (Raise to) r = r
-timed_own (Give why) r = tt
+timed_own (Give why) r = inl r
 timed_own _ r = absurd r
 
 sending_own : {t : Types} (x : Move t) → IsSending x → IsOwn x
@@ -92,7 +94,7 @@ sending_own (Begin id opens) r = tt
 sending_own Skip r = tt
 sending_own (Shut time close) r = tt
 sending_own (Raise to) r = r
-sending_own (Give why) r = tt
+sending_own (Give why) r = inr r
 sending_own (Spend tokens) r = tt
 sending_own (Hold until) r = tt
 sending_own (Finish bytes control) r = tt

@@ -19,7 +19,6 @@ use Rattle.qc_state.specs.declared.deeds.Did.{Did}
 use Rattle.qc_state.specs.declared.deeds.Did.TheVariants as did
 use Rattle.qc_state.specs.declared.deeds.Layer.TheVariants as layer
 use Rattle.qc_state.specs.declared.deeds.Verdict.{Verdict}
-use Rattle.qc_state.specs.declared.deeds.Verdict.TheVariants as verdict
 use Rattle.qc_state.specs.declared.form.Form.{Form}
 use Rattle.qc_state.specs.declared.form.Form.TheVariants as form
 use Rattle.qc_state.specs.declared.input.Input.{Input}
@@ -32,9 +31,9 @@ use Rattle.qc_state.specs.declared.life.Life.{Life}
 use Rattle.qc_state.specs.declared.trace.Step.{Step}
 use Rattle.qc_state.specs.Forms.{is_early, number_space}
 use Rattle.qc_state.specs.Headline.{deeds_of}
-use Rattle.qc_state.specs.Keys.{DataKeys, HandshakeKeys, NewKeys, NoKeys, epoch_in, epoch_with, failure_counted, key_acked, key_discarded, key_opened, key_used, keys_dropped, keys_given, reaches_limit, ring_of, ring_used, usage_of, key_updated}
+use Rattle.qc_state.specs.Keys.{DataKeys, HandshakeKeys, NewKeys, NoKeys, epoch_in, epoch_with, failure_counted, key_acked, key_discarded, key_opened, key_used, keys_dropped, keys_given, reaches_limit, ring_of, ring_used, usage_of, key_updated, ring_acked, ring_discarded, ring_opened, ring_usage, initial_renewed}
 use Rattle.qc_state.specs.Life.{is_open, is_over}
-use Rattle.qc_state.specs.Moves.{Accept, Ack, AreNext, Ask, Call, Discard, Enter, Fail, Forget, Hand, Issue, MayMove, Move, Post, Read, Seal, Shut, Take, Tell, Unseal, Write, deeds_move, keys_move, move_to, state_move, Update}
+use Rattle.qc_state.specs.Moves.{Accept, Ack, AreNext, Ask, Call, Discard, Enter, Fail, Forget, Hand, Issue, MayMove, Move, Post, Read, Seal, Shut, Take, Tell, Unseal, Write, deeds_move, keys_move, move_to, state_move, Update, Fire, Renew}
 use Rattle.qc_state.specs.Numbers.{next_number}
 use Rattle.qc_state.specs.Progress.{keys_behind, ring_with}
 use Rattle.qc_state.specs.Receiving.{datagram_after}
@@ -349,6 +348,7 @@ module _ {t : Types} where
   told_stays o (did.Gave layer.Session body) s h beside = absurd beside
   told_stays o (did.Gave layer.Recovery body) s h beside = absurd beside
   told_stays o (did.Gave layer.Life body) s h beside = (refl, refl, refl)
+  told_stays o (did.Gave layer.Store body) s h beside = (refl, refl, refl)
   told_stays o (did.Gave layer.Ids body) s h beside = (refl, refl, refl)
   told_stays o (did.Gave layer.Streams body) s h beside = (refl, refl, refl)
   told_stays o (did.Piece space number v) s h beside = (refl, ap (λ (x : Option SpaceId). is_of «Data» x) h.0, refl)
@@ -419,6 +419,7 @@ module _ {t : Types} where
   move_within m o Fail a plain h beside may = absurd h
   move_within m o Discard a plain h beside may = absurd h
   move_within m o (Update fresh session) a plain h beside may = absurd h
+  move_within m o (Renew time cid token keys) a plain h beside may = absurd h
   move_within m o (Unseal time n which fresh session) a plain h beside may = let named : o.which ≡ Some which = h.named in absurd cc
   move_within m o (Forget Initial) a plain h beside may = still_within (is_space «Data» o.space) (Forget Initial) a refl refl refl refl refl
   move_within m o (Forget Handshake) a plain h beside may = still_within (is_space «Data» o.space) (Forget Handshake) a refl refl refl refl refl
@@ -547,7 +548,7 @@ module _ {t : Types} where
   -- ---- inputs
 
   outside_kept : (time : ℕ) (x : Move t) (a : At t) → IsOutside time x a.state → Kept a (move_to x a)
-  unfolding keys_move deeds_move failure_counted
+  unfolding keys_move deeds_move failure_counted initial_renewed
   outside_kept time (Seal at f n size fs) a h = absurd h
   outside_kept time (Forget space) a h = absurd h
   outside_kept time (Ack space n after) a h = absurd h
@@ -555,6 +556,7 @@ module _ {t : Types} where
   outside_kept time (Unseal at n which fresh session) a h = absurd h
   outside_kept time Discard a h = absurd h
   outside_kept time (Update fresh session) a h = absurd h
+  outside_kept time (Renew at cid token keys) a h = still_kept (Renew at cid token keys) a refl refl refl refl (λ now. refl)
   outside_kept time (Hand frame) a h = absurd h
   outside_kept time (Enter space n v) a h = absurd h
   outside_kept time (Accept at space n e g v) a h = absurd h
@@ -612,6 +614,7 @@ module _ {t : Types} where
   timed_kept (Hand frame) h a = absurd h
   timed_kept Discard h a = discard_kept a
   timed_kept (Update fresh session) h a = absurd h
+  timed_kept (Renew at cid token keys) h a = absurd h
   timed_kept x h a = still_kept x a refl refl refl refl (λ now. refl)
 
   sending_kept : (x : Move t) → IsSending x → (a : At t) → MayMove x a.state → Kept a (move_to x a)
@@ -625,6 +628,7 @@ module _ {t : Types} where
   sending_kept (Unseal at n which fresh session) h a may = absurd h
   sending_kept Discard h a may = absurd h
   sending_kept (Update fresh session) h a may = update_kept fresh session a may
+  sending_kept (Renew at cid token keys) h a may = absurd h
   sending_kept Fail h a may = absurd h
   sending_kept (Hand frame) h a may = absurd h
   sending_kept (Forget id) h a may = still_kept (Forget id) a (dropped_same a.state.keys id (ap (λ (space : SpaceId). is_space space «Data») h)) (dropped_highest a.state.keys id) refl refl (λ now. refl)

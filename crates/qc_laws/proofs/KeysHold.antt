@@ -23,9 +23,9 @@ use Rattle.qc_state.specs.declared.life.Close.{Close}
 use Rattle.qc_state.specs.declared.trace.Step.{Step}
 use Rattle.qc_state.specs.Forms.{number_space}
 use Rattle.qc_laws.specs.KeyLaws.{IsWithinLimit, KeysHold}
-use Rattle.qc_state.specs.Keys.{NewKeys, NoKeys, HandshakeKeys, DataKeys, count_one, failure_counted, key_acked, key_discarded, key_opened, key_updated, key_used, keys_dropped, keys_given, plain_usage, reaches_limit, ring_acked, ring_discarded, ring_may_update, ring_opened, ring_updated, ring_usage, ring_used, usage_of, with_ring}
+use Rattle.qc_state.specs.Keys.{NewKeys, NoKeys, HandshakeKeys, DataKeys, count_one, failure_counted, key_acked, key_discarded, key_opened, key_updated, key_used, keys_dropped, keys_given, plain_usage, reaches_limit, ring_acked, ring_discarded, ring_may_update, ring_opened, ring_updated, ring_usage, ring_used, usage_of, with_ring, initial_renewed}
 use Rattle.qc_state.specs.Life.{is_open}
-use Rattle.qc_state.specs.Moves.{Move, Ack, Ask, Discard, Fail, Forget, Seal, Shut, Take, Unseal, Update, Write, keys_move, move_to, state_move, MayMove, Call, Post, Issue}
+use Rattle.qc_state.specs.Moves.{Move, Ack, Ask, Discard, Fail, Forget, Seal, Shut, Take, Unseal, Update, Write, keys_move, move_to, state_move, MayMove, Call, Post, Issue, Renew}
 use Rattle.qc_state.specs.Numbers.{next_number}
 use Rattle.qc_state.specs.Run.{IsAllowed, IsStep, Run, began, called, close_after, input_after, reported, step_after, time_of, datagram_limit}
 use Rattle.qc_state.specs.Sending.{MayTransmit, packet_size, transmit_after, Choice}
@@ -82,6 +82,18 @@ module _ {H P : Type 0} where
   given_hold v (DataKeys k) e h form.Handshake = h form.Handshake
   given_hold v (DataKeys k) e h form.Early = tt
   given_hold v (DataKeys k) e h form.OneRtt = omega arith
+
+  -- nor have those of an Initial space that begins anew, where it has keys still
+  renewed_within : (o : Option (SpaceKeys H P)) (keys : SpaceKeys H P) → keys.sealed ≡ 0 → IsWithinLimit (option_map plain_usage (option_map (λ (k : SpaceKeys H P). keys) o))
+  renewed_within None keys e = tt
+  renewed_within (Some k) keys e = omega (arith, e)
+
+  renewed_hold : (v : KeyGroup H P) (keys : SpaceKeys H P) → keys.sealed ≡ 0 → KeysHold v → (other : Form) → IsWithinLimit (usage_of (initial_renewed v keys) other)
+  unfolding initial_renewed usage_of
+  renewed_hold v keys e h form.Initial = renewed_within v.initial keys e
+  renewed_hold v keys e h form.Handshake = h form.Handshake
+  renewed_hold v keys e h form.Early = tt
+  renewed_hold v keys e h form.OneRtt = h form.OneRtt
 
   -- a packet that didn't open changes none
   failed_hold : (v : KeyGroup H P) → KeysHold v → (other : Form) → IsWithinLimit (usage_of (failure_counted v) other)
@@ -174,6 +186,7 @@ module _ {t : Types} where
   abbrev IsSpare : Move t → View t → Type 0
   IsSpare (Seal time form n size fs) s = reaches_limit 0 (usage_of s.keys form) ≡ false
   IsSpare (Write bytes keys session) s = AreUnused keys
+  IsSpare (Renew time cid token keys) s = keys.sealed ≡ 0
   IsSpare (Unseal time n which fresh session) s = FreshFits which fresh
   IsSpare (Update fresh session) s = ring_may_update s.keys.«data» ≡ true
   IsSpare _ s = Unit {0}
@@ -194,6 +207,7 @@ module _ {t : Types} where
   move_keeps (Seal time form n size fs) a spare = λ h. sealed_hold a.state.keys form n spare h
   move_keeps (Forget id) a spare = λ h. dropped_hold a.state.keys id h
   move_keeps Fail a spare = λ h. failed_hold a.state.keys h
+  move_keeps (Renew time cid token keys) a spare = λ h. renewed_hold a.state.keys keys spare h
   move_keeps (Unseal time n which fresh session) a spare = λ h. opened_hold a.state.keys which n fresh spare h
   move_keeps (Ack id n r) a spare = λ h. acked_hold a.state.keys id n h
   move_keeps (Update fresh session) a spare = λ h. updated_hold a.state.keys fresh spare h
@@ -204,6 +218,7 @@ module _ {t : Types} where
   -- what is received, and what a timer does, seals nothing
   received_spare : (x : Move t) (s : View t) → IsReceived x → IsSpare x s
   received_spare (Write bytes keys session) s r = r
+  received_spare (Renew time cid token keys) s r = r
   received_spare (Unseal time n which fresh session) s r = r
   received_spare (Update fresh session) s r = absurd r
   received_spare (Seal time form n size fs) s r = absurd r
@@ -213,6 +228,7 @@ module _ {t : Types} where
   timed_spare (Write bytes keys session) s r = absurd r
   timed_spare (Unseal time n which fresh session) s r = absurd r
   timed_spare (Update fresh session) s r = absurd r
+  timed_spare (Renew time cid token keys) s r = absurd r
   timed_spare (Seal time form n size fs) s r = absurd r
   timed_spare _ s r = tt
 
@@ -221,6 +237,7 @@ module _ {t : Types} where
   sending_spare (Write bytes keys session) s r k = absurd r
   sending_spare (Unseal time n which fresh session) s r k = absurd r
   sending_spare (Update fresh session) s r k = k.1
+  sending_spare (Renew time cid token keys) s r k = absurd r
   sending_spare (Seal time form n size fs) s r k = absurd r
   sending_spare _ s r k = tt
 

@@ -1,6 +1,6 @@
 -- A ledger of the 1-RTT keys, by packets that opened and by each other move but the sealing of a packet.
-use Rattle.std.proofs.Common.{◌≡◌, ℕ, ◌+◌, ◌≤◌, ◌<◌, ◌⊎◌, inl, inr, List, [], ◌∷◌, ◌++◌, refl, ap, sym, ◌∙◌, subst, Bool, true, false, Option, Some, None, if◌then◌else◌, append_assoc, append-nil, arith}
-use Rattle.std.specs.Prelude.{◌&&◌, is_some, option_map}
+use Rattle.std.proofs.Common.{◌≡◌, ℕ, ◌+◌, ◌≤◌, ◌<◌, ◌⊎◌, inl, inr, List, [], ◌∷◌, ◌++◌, refl, ap, sym, ◌∙◌, subst, Bool, true, false, Option, Some, None, append_assoc, append-nil, arith}
+use Rattle.std.specs.Prelude.{is_some, option_map}
 use Rattle.qc_base.specs.declared.side.LongType.TheVariants as long
 use Rattle.qc_base.specs.declared.side.SpaceId.{SpaceId}
 use Rattle.qc_base.specs.declared.side.SpaceId.TheVariants.{Initial, Handshake, «Data»}
@@ -25,7 +25,7 @@ use Rattle.qc_state.specs.Headline.{IsKept, KnownBehind, accepted_in, accepted_n
 use Rattle.qc_state.specs.Keys.{failure_counted, fresh_for, key_discarded, key_opened, key_updated, opening_key, plain_keys, ring_discarded, ring_may_update, ring_of, ring_opened, ring_updated, unmasking_key}
 use Rattle.qc_state.specs.Life.{is_over}
 use Rattle.qc_state.specs.Lower.{ids_stepped, limits_learned, streams_closed, streams_stepped, timer_fired, datagrams_stepped}
-use Rattle.qc_state.specs.Moves.{Accept, Ack, Begin, Call, Come, Discard, Enter, Fail, Fire, Forget, Hand, Insert, Learn, MayMove, Move, Post, Read, ReportStream, ReportStreams, Retire, Seal, Skip, Take, Tell, Unseal, Update, Write, deeds_move, keys_move, lower_move, move_to, numbers_move, state_move, waiting_move}
+use Rattle.qc_state.specs.Moves.{Accept, Ack, Begin, Call, Come, Discard, Enter, Fail, Fire, Forget, Hand, Insert, Learn, MayMove, Move, Post, Read, ReportStream, ReportStreams, Retire, Seal, Skip, Take, Tell, Unseal, Update, Write, deeds_move, keys_move, lower_move, move_to, numbers_move, state_move, waiting_move, Renew}
 use Rattle.qc_state.specs.Numbers.{next_number, number_skipped, received_number, used_in}
 use Rattle.qc_state.specs.Offers.{packet_begun}
 use Rattle.qc_state.specs.Opening.{opened_at, opened_form, opened_in, opening_of}
@@ -52,7 +52,7 @@ use Rattle.qc_laws.proofs.AcksKnown.{KnownSince}
 use Rattle.qc_laws.proofs.PieceLaws.{opened_tells}
 use Rattle.qc_laws.proofs.Receives.{IsOpened, IsPieceOf, datagram_holds}
 use Rattle.qc_laws.proofs.StreamSteps.{last_of, same_since}
-use Rattle.qc_laws.proofs.Ledgers.{Behind, Inside, IsFor, IsStill, Shows, accepted_same, ack_inside, bound_last, bound_more, forget_still, given_append, goes_here, goes_next, goes_one, in_last, inside_here, inside_next, move_inside, none_known, read_inside, still_last, still_shows, told_append, told_still, unpieced_known, unread_accepts, unread_unaccepted}
+use Rattle.qc_laws.proofs.Ledgers.{Behind, Inside, IsFor, IsStill, Shows, accepted_same, ack_inside, bound_last, bound_more, forget_still, given_append, goes_here, goes_next, goes_one, in_last, inside_here, inside_next, move_inside, none_known, read_inside, still_last, still_shows, told_append, told_still, unpieced_known, unread_accepts, unread_unaccepted, renew_still}
 
 -- a move that is no update of this end's
 abbrev pub IsUnupdated : {t : Types} → Move t → Type 0
@@ -370,6 +370,7 @@ module _ {t : Types} (m : Meaning t) (Comes : Piece → Type 0) where
       by_move (Tell (did.Piece space number v)) h knows =
           still_follows (Tell (did.Piece space number v)) a (told_still m Comes (did.Piece space number v) a.state refl) (λ now. refl) (unread_unaccepted space number v (unread_accepts space number v h)) knows
       by_move (Tell d) h knows = absurd h
+      by_move (Renew at cid token keys) h knows = still_follows (Renew at cid token keys) a (renew_still m Comes at cid token keys a.state) (λ now. refl) refl knows
       by_move x h knows = other_follows x a refl refl refl refl refl (λ now. refl) refl knows
 
   pub datagram_follows : (coming : Coming) (bytes : List ℕ) (a : At t) → ((p : Piece) → IsPieceOf p (cut_of a.state bytes) → Comes p) → Follows a (datagram_after m coming bytes a)
@@ -453,6 +454,7 @@ module _ {t : Types} (m : Meaning t) (Comes : Piece → Type 0) where
       by_move (Write bytes keys session) h knows = absurd h
       by_move (Unseal at n which fresh session) h knows = absurd h
       by_move (Update fresh session) h knows = absurd h
+      by_move (Renew at cid token keys) h knows = absurd h
       by_move Fail h knows = absurd h
       by_move (Hand frame) h knows = absurd h
       by_move (Enter space n v) h knows = absurd h
@@ -501,6 +503,7 @@ module _ {t : Types} (m : Meaning t) (Comes : Piece → Type 0) where
       by_move (Read space count session) h u knows = absurd h
       by_move (Unseal at n which fresh session) h u knows = absurd h
       by_move (Update fresh session) h u knows = absurd u
+      by_move (Renew at cid token keys) h u knows = absurd h
       by_move Discard h u knows = absurd h
       by_move Fail h u knows = absurd h
       by_move (Hand frame) h u knows = absurd h

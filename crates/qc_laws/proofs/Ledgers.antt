@@ -1,4 +1,5 @@
 -- A ledger of the 1-RTT keys, by the moves of a packet that opened.
+use Rattle.qc_state.specs.declared.keys.SpaceKeys.{SpaceKeys}
 use Rattle.std.proofs.Common.{◌≡◌, ℕ, ◌+◌, ◌≤◌, ◌<◌, ◌⊎◌, inl, inr, List, [], ◌∷◌, ◌++◌, refl, ap, sym, ◌∙◌, subst, Bool, true, false, Option, Some, None, Ok, Err, if◌then◌else◌, append_assoc, append-nil, arith}
 use Rattle.std.proofs.lemmas.Bool.Decides.{nat_tests}
 use Rattle.std.specs.Prelude.{◌&&◌, max, nat_le, option_to_list}
@@ -23,10 +24,10 @@ use Rattle.qc_state.specs.declared.lower.Lower.{Lower}
 use Rattle.qc_state.specs.declared.numbers.Numbers.{Numbers}
 use Rattle.qc_state.specs.declared.opening.Signs.{Signs}
 use Rattle.qc_state.specs.Headline.{KnownBehind, accepted_in, accepted_number}
-use Rattle.qc_state.specs.Keys.{DataKeys, HandshakeKeys, NewKeys, NoKeys, key_acked, keys_dropped, keys_given, new_ring, ring_acked}
+use Rattle.qc_state.specs.Keys.{DataKeys, HandshakeKeys, NewKeys, NoKeys, key_acked, keys_dropped, keys_given, new_ring, ring_acked, initial_renewed}
 use Rattle.qc_state.specs.Lower.{bytes_came, flight_dropped, frame_handed, ids_stepped, limits_learned, packets_settled, session_read, session_wrote, streams_closed, datagrams_stepped, streams_stepped}
-use Rattle.qc_state.specs.Moves.{Accept, Ack, AreNext, Begin, Call, Discard, Enter, Fail, Fire, Forget, Hand, Insert, MayMove, Move, Post, Read, ReportStream, ReportStreams, Retire, Seal, Skip, Take, Tell, Unseal, Update, Write, accepts, deeds_move, keys_move, lower_move, move_to, numbers_move, state_move, told_to_streams}
-use Rattle.qc_state.specs.Numbers.{acked_in, accepted_in as accepted_there, entered_in, next_number, number_accepted, number_acked, number_entered, received_number}
+use Rattle.qc_state.specs.Moves.{Accept, Ack, AreNext, Begin, Call, Discard, Enter, Fail, Fire, Forget, Hand, Insert, MayMove, Move, Post, Read, ReportStream, ReportStreams, Retire, Seal, Skip, Take, Tell, Unseal, Update, Write, accepts, deeds_move, keys_move, lower_move, move_to, numbers_move, state_move, told_to_streams, Renew}
+use Rattle.qc_state.specs.Numbers.{acked_in, accepted_in as accepted_there, entered_in, next_number, number_accepted, number_acked, number_entered, received_number, space_renewed}
 use Rattle.qc_state.specs.Progress.{keys_behind, ring_with, session_behind}
 use Rattle.qc_state.specs.Spaces.{is_space}
 use Rattle.qc_state.specs.Streams.{is_given_to_streams}
@@ -139,6 +140,7 @@ unread_accepts space number verdict.Ignored h = refl
 unread_accepts space number verdict.Failure h = refl
 unread_accepts space number verdict.BadBits h = refl
 unread_accepts space number verdict.BadUpdate h = refl
+unread_accepts space number verdict.Versions h = refl
 unread_accepts space number _ h = absurd h
 
 -- the number that is accepted is that of its packet
@@ -593,6 +595,10 @@ module _ {t : Types} (m : Meaning t) (Comes : Piece → Type 0) where
   unfolding numbers_move keys_move lower_move deeds_move flight_dropped
   forget_still id s below = record { session = refl; keys = dropped_data s.keys id below; highest = dropped_top s.keys id; next = omega arith; rx = refl; unsealed = refl }
 
+  pub renew_still : (time : ℕ) (cid token : List ℕ) (keys : SpaceKeys t.H t.P) (s : View t) → IsStill (Renew time cid token keys) s
+  unfolding numbers_move keys_move lower_move deeds_move flight_dropped ids_stepped initial_renewed space_renewed next_number received_number
+  renew_still time cid token keys s = record { session = refl; keys = refl; highest = refl; next = omega arith; rx = refl; unsealed = refl }
+
   enter_still : (id : SpaceId) (n : ℕ) (v : Verdict) (s : View t) → IsStill (Enter id n v) s
   unfolding numbers_move keys_move lower_move deeds_move
   enter_still id n v s = record { session = refl; keys = refl; highest = refl; next = omega (arith, entered_next s.numbers id n); rx = entered_rx s.numbers id n; unsealed = refl }
@@ -626,6 +632,8 @@ module _ {t : Types} (m : Meaning t) (Comes : Piece → Type 0) where
   tell_inside o (did.Gave layer.Recovery body) a h beside = absurd beside
   tell_inside o (did.Gave layer.Life body) a h beside =
       gives_inside o (Tell (did.Gave layer.Life body)) a layer.Life h.0 (told_still (did.Gave layer.Life body) a.state refl) (ap (λ (b : List ℕ). did.Gave layer.Life b ∷ []) h.3) h.1 (λ here. refl)
+  tell_inside o (did.Gave layer.Store body) a h beside =
+      gives_inside o (Tell (did.Gave layer.Store body)) a layer.Store h.0 (told_still (did.Gave layer.Store body) a.state refl) (ap (λ (b : List ℕ). did.Gave layer.Store b ∷ []) h.3) h.1 (λ here. refl)
   tell_inside o (did.Gave layer.Ids body) a h beside =
       gives_inside o (Tell (did.Gave layer.Ids body)) a layer.Ids h.0 (told_still (did.Gave layer.Ids body) a.state refl) (ap (λ (b : List ℕ). did.Gave layer.Ids b ∷ []) h.3) h.1 (λ here. refl)
   tell_inside o (did.Gave layer.Streams body) a h beside =
@@ -655,6 +663,7 @@ module _ {t : Types} (m : Meaning t) (Comes : Piece → Type 0) where
   move_inside o Fail a none h beside may = absurd h
   move_inside o Discard a none h beside may = absurd h
   move_inside o (Update fresh session) a none h beside may = absurd h
+  move_inside o (Renew time cid token keys) a none h beside may = absurd h
   move_inside o Skip a none h beside may = absurd h
   move_inside o (Begin id opens) a none h beside may = absurd h
   move_inside o (Take id fs) a none h beside may = absurd h

@@ -21,7 +21,7 @@ use Rattle.qc_state.specs.Numbers.{next_number}
 use Rattle.qc_state.specs.Run.{IsAllowed, IsStep, Run, began, called, input_after, reported, time_of}
 use Rattle.qc_state.specs.Run as run
 use Rattle.qc_state.specs.Sending.{Choice, packet_size}
-use Rattle.qc_state.specs.Setup.{packet_drawn, parameters_known, token_expected, word_drawn}
+use Rattle.qc_state.specs.Setup.{packet_drawn, parameters_known, token_expected, word_drawn, retry_taken}
 use Rattle.qc_state.specs.Types.{Types, Meaning}
 use Rattle.qc_state.specs.View.{View, At}
 use Rattle.qc_laws.specs.CidLaws.{HasNewIds, HaveLength, KeepsLength, issued_by, issued_in}
@@ -108,7 +108,7 @@ module _ {t : Types} where
   stays_next a b c g h = h ∙ g
 
   state_stays : (x : Move t) (s : View t) → (state_move x s).setup.fixed.local_cid ≡ s.setup.fixed.local_cid
-  unfolding state_move setup_move token_expected parameters_known word_drawn packet_drawn
+  unfolding state_move setup_move token_expected parameters_known word_drawn packet_drawn retry_taken
   state_stays (Expect token) s = refl
   state_stays (Learn p) s = refl
   state_stays Skip s = refl

@@ -34,6 +34,9 @@ pub mod PostsFold
 pub mod PostsSealed
 pub mod PostsTaken
 pub mod Receives
+pub mod RetriesHold
+pub mod InitialKeys
+pub mod Mismatches
 pub mod SpacesApart
 pub mod Steps
 pub mod StepsTell
@@ -96,3 +99,5 @@ pub mod LedgerMoves
 pub mod Mirrors
 pub mod KeysFit
 pub mod RunsFit
+pub mod StopCodes
+pub mod Reasons

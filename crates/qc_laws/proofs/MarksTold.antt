@@ -30,7 +30,7 @@ use Rattle.qc_state.specs.Acks.{is_ack, told_counts}
 use Rattle.qc_state.specs.Forms.{number_space}
 use Rattle.qc_state.specs.Life.{is_open, is_over}
 use Rattle.qc_laws.specs.MarkLaws.{AcksTell, DeedsTell, EachTold, SealsTold, StepsTell, Tally, carried_mark, nothing_tallied, tally_accepted, tally_behind, tally_judged, tally_of, tally_since, tally_told}
-use Rattle.qc_state.specs.Moves.{Probe, Move, Clock, Ask, Take, Seal, Forget, Enter, Expect, Fail, Accept, Fix, Hear, Ack, Fire, Arm, Pace, Release, Begin, Skip, Come, Read, Write, Ready, Token, Learn, Want, Confirm, Establish, Tell, PeerClosesToo, PeerCloses, Owe, Shut, Raise, Give, Say, Finish, ReportReady, ReportConnected, ReportLost, ReportNotice, ReportNotices, ReportDrained, accepts, enters, state_move, move_to, deeds_move, waiting_move, numbers_move, keys_move, life_move, MayMove, IsTold, told, Hand, Call, ReportStream, ReportStreams, told_to_streams, Post, ReportHeard, ReportAllHeard, Insert, Switch, Retire, Issue, Outlive, Hold, Spend, Discard, Unseal, Update}
+use Rattle.qc_state.specs.Moves.{Probe, Move, Clock, Ask, Take, Seal, Forget, Enter, Expect, Fail, Accept, Fix, Hear, Ack, Fire, Arm, Pace, Release, Begin, Skip, Come, Read, Write, Ready, Token, Learn, Want, Confirm, Establish, Tell, PeerClosesToo, PeerCloses, Owe, Shut, Raise, Give, Say, Finish, ReportReady, ReportConnected, ReportLost, ReportNotice, ReportNotices, ReportDrained, accepts, enters, state_move, move_to, deeds_move, waiting_move, numbers_move, keys_move, life_move, MayMove, IsTold, told, Hand, Call, ReportStream, ReportStreams, told_to_streams, Post, ReportHeard, ReportAllHeard, Insert, Switch, Retire, Issue, Outlive, Hold, Spend, Discard, Unseal, Update, Renew}
 use Rattle.qc_state.specs.Numbers.{next_number}
 use Rattle.qc_state.specs.Offers.{packet_begun}
 use Rattle.qc_state.proofs.Probed.{begun_holds}
@@ -40,7 +40,7 @@ use Rattle.qc_state.specs.Sending.{Choice, MayTransmit, packet_size, transmit_af
 use Rattle.qc_state.specs.Spaces.{space_of, with_space, is_space}
 use Rattle.qc_state.specs.Types.{Types, Meaning}
 use Rattle.qc_state.specs.View.{View, At}
-use Rattle.qc_state.specs.Waiting.{done_asked, ping_asked, waiting_without, close_begun, counts_begun, mark_counted, packet_told, packets_lost, lost_in, packets_acked, acked_in, fired_in, probes_added, probe_spent, frames_again, all_again, came_in, packet_came, crypto_written, nothing_left, space_left, released, ack_released, bundle_next}
+use Rattle.qc_state.specs.Waiting.{done_asked, ping_asked, waiting_without, close_begun, counts_begun, mark_counted, packet_told, packets_lost, lost_in, packets_acked, acked_in, fired_in, probes_added, probe_spent, frames_again, all_again, came_in, packet_came, crypto_written, nothing_left, space_left, released, ack_released, bundle_next, bytes_again, hello_again}
 use Rattle.qc_state.specs.Updating.{fresh_now}
 use Rattle.qc_state.proofs.Updates.{holds_updated}
 use Rattle.qc_state.proofs.Expired.{IsTimed, holds_timeout}
@@ -180,6 +180,8 @@ accepts_none verdict.Ignored h = refl
 accepts_none verdict.Failure h = refl
 accepts_none verdict.BadBits h = refl
 accepts_none verdict.BadUpdate h = refl
+accepts_none verdict.RetryTaken h = refl
+accepts_none verdict.Versions h = refl
 accepts_none verdict.Seen h = refl
 accepts_none verdict.ReadForClose h = refl
 accepts_none verdict.NumberOnly h = refl
@@ -307,7 +309,7 @@ module _ {t : Types} where
 
   -- over each move
   counted_move : (id : SpaceId) (mark : Option EcnCodepoint) (x : Move t) (a : At t) → MayMove x a.state → IsTelling mark x a.state → Counted id mark a (move_to x a)
-  unfolding MayMove deeds_move waiting_move ping_asked crypto_written done_asked space_left nothing_left close_begun
+  unfolding MayMove deeds_move waiting_move ping_asked crypto_written done_asked space_left nothing_left close_begun hello_again bytes_again
   counted_move id mark (Clock time) a h k = absurd h
   counted_move id mark (Ask space) a h k = silent_counted id mark (Ask space) a refl (same_marks id space a.state.waiting _ refl)
   counted_move id mark (Take space fs) a h k = silent_counted id mark (Take space fs) a refl (taken_marks id space a.state.waiting fs)
@@ -319,6 +321,7 @@ module _ {t : Types} where
   counted_move id mark (Expect token) a h k = silent_counted id mark (Expect token) a refl refl
   counted_move id mark (Enter space n v) a h k = plain_counted id mark (Enter space n v) _ a refl (λ y. tt) (λ y. judged_same id mark (Some space) v y k) refl
   counted_move id mark Fail a h k = silent_counted id mark Fail a refl refl
+  counted_move id mark (Renew time cid token keys) a h k = plain_counted id mark (Renew time cid token keys) _ a refl (λ y. tt) (λ y. refl) (same_marks id Initial a.state.waiting _ refl)
   counted_move id mark (Unseal time n which fresh session) a h k = silent_counted id mark (Unseal time n which fresh session) a refl refl
   counted_move id mark (Update fresh session) a h k = silent_counted id mark (Update fresh session) a refl refl
   counted_move id mark Discard a h k = silent_counted id mark Discard a refl refl

@@ -1,6 +1,9 @@
 -- What is told of a packet that came, and that it gives to the layers what the applied frames of its payload give.
 use Rattle.std.proofs.Common.{◌≡◌, ◌⊎◌, inl, inr, ℕ, List, [], ◌∷◌, ◌++◌, length, refl, ap, sym, ◌∙◌, Bool, true, false, Option, Some, None, if◌then◌else◌, append_assoc, append-nil, subst}
-use Rattle.std.specs.Prelude.{not, Ok, Err}
+use Rattle.qc_header.specs.declared.protected.ProtectedHeader.TheVariants as protected
+use Rattle.qc_header.specs.declared.protected.ProtectedHeader.{ProtectedHeader}
+use Rattle.qc_base.specs.declared.side.Side.TheVariants.{Client}
+use Rattle.std.specs.Prelude.{not, Ok, Err, drop}
 use Rattle.std.specs.List.{list_any}
 use Rattle.qc_base.specs.declared.side.Side.TheVariants.{Server}
 use Rattle.qc_base.specs.declared.side.SpaceId.{SpaceId}
@@ -22,25 +25,25 @@ use Rattle.qc_state.specs.declared.opening.Opening.{Opening}
 use Rattle.qc_state.specs.declared.opening.Opening.TheVariants.{Unreadable, Unopened, Reserved, Untimely, Opened}
 use Rattle.qc_state.specs.declared.trace.Step.{Step}
 use Rattle.qc_state.specs.declared.keys.Fresh.{Fresh}
-use Rattle.qc_state.specs.Keys.{fails_too_often}
+use Rattle.qc_state.specs.Keys.{fails_too_often, new_keys}
 use Rattle.qc_state.specs.Life.{is_over}
-use Rattle.qc_state.specs.Moves.{Move, Accept, PeerClosesToo, Enter, Expect, Fail, Fix, Forget, Owe, Raise, Tell, armed_with, deeds_move, move_to, state_move, Unseal, numbers_move, life_move, paths_move, setup_move}
+use Rattle.qc_state.specs.Moves.{Move, Accept, PeerClosesToo, Enter, Expect, Fail, Fix, Forget, Owe, Raise, Tell, armed_with, deeds_move, move_to, state_move, Unseal, numbers_move, life_move, paths_move, setup_move, Renew}
 use Rattle.qc_state.specs.Opening.{opening_of}
 use Rattle.qc_state.specs.Paths.{is_blocked}
-use Rattle.qc_laws.specs.PieceLaws.{TellsDatagram, TellsPiece, TellsPieces, gifts_by, opening_deed, opening_gifts, payload_gifts, piece_deed, piece_gifts, view_admitted}
-use Rattle.qc_state.specs.Receiving.{accepted_after, admitted_after, counted_after, cut_of, datagram_after, failed_after, first_after, first_token, fixed_after, fixes_peer, heard_after, is_close_item, is_eliciting_item, opening_after, payload_after, piece_after, pieces_after, piece_told, read_for_close, received_after, signs_of, verdict_after}
+use Rattle.qc_laws.specs.PieceLaws.{TellsDatagram, TellsPiece, TellsPieces, gifts_by, opening_deed, opening_gifts, payload_gifts, piece_deed, piece_gifts, view_admitted, formed_deed, formed_gifts, unnumbered_deed}
+use Rattle.qc_state.specs.Receiving.{accepted_after, admitted_after, counted_after, cut_of, datagram_after, failed_after, first_after, first_token, fixed_after, fixes_peer, heard_after, is_close_item, is_eliciting_item, opening_after, payload_after, piece_after, pieces_after, piece_told, read_for_close, received_after, signs_of, verdict_after, formed_after, left_after, renewed_after, retried_after, unnumbered_after}
 use Rattle.qc_state.specs.Run.{IsStep, began, called, input_after}
 use Rattle.qc_state.specs.Sending.{drops_initial, initial_left}
 use Rattle.qc_state.specs.Stopping.{key_limit_error, killed_after, stopped_after, update_error, violation_at}
 use Rattle.qc_state.specs.Types.{Types, Meaning}
-use Rattle.qc_state.specs.Verdicts.{first_row, verdict_of}
+use Rattle.qc_state.specs.Verdicts.{first_row, verdict_of, ids_end, retry_token, unnumbered_rows, unnumbered_verdict}
 use Rattle.qc_state.specs.View.{View, At, at}
 use Rattle.qc_state.specs.Updating.{fresh_by, session_by, unsealed_after}
 use Rattle.qc_state.proofs.Ends.{holds_initial}
 use Rattle.qc_laws.proofs.PathsHold.{counted_did}
 use Rattle.qc_laws.proofs.Receives.{same_cut}
 use Rattle.qc_state.proofs.Telling.{told_appends}
-use Rattle.qc_laws.proofs.Gifts.{Along, Gives, along_same, ending_quiet, given_quiet, gives_here, gives_move, payload_gives, quiet_gives, quiet_next, stopped_quiet}
+use Rattle.qc_laws.proofs.Gifts.{Along, Gives, along_same, ending_quiet, given_quiet, gives_here, gives_move, payload_gives, quiet_gives, quiet_next, stopped_quiet, armed_quiet, left_quiet}
 use Rattle.qc_rings.specs.declared.which.Which.{Which}
 
 -- ---- a packet by its verdict
@@ -51,6 +54,8 @@ is_read verdict.Ignored = false
 is_read verdict.Failure = false
 is_read verdict.BadBits = false
 is_read verdict.BadUpdate = false
+is_read verdict.RetryTaken = false
+is_read verdict.Versions = false
 is_read _ = true
 
 read_by_row : (new closed early other : Bool) → is_read (first_row ((not new, verdict.Seen) ∷ (closed, verdict.ReadForClose) ∷ (early, verdict.NumberOnly) ∷ (other, verdict.AckOnly) ∷ []) verdict.Admitted) ≡ true
@@ -59,6 +64,11 @@ read_by_row true false true other = refl
 read_by_row true false false true = refl
 read_by_row true false false false = refl
 read_by_row false closed early other = refl
+
+-- no list of versions is a Retry
+no_retry : (b : Bool) → verdict.RetryTaken ≡ first_row ((b, verdict.Versions) ∷ []) verdict.Ignored → ⊥
+no_retry true e = cc
+no_retry false e = cc
 
 module _ {t : Types} where
   -- a move tells of the packet, and what comes behind it gives these gifts
@@ -157,6 +167,8 @@ module _ {t : Types} where
   verdict_tells m coming id spin source number payload verdict.Failure a h = cc
   verdict_tells m coming id spin source number payload verdict.BadBits a h = cc
   verdict_tells m coming id spin source number payload verdict.BadUpdate a h = cc
+  verdict_tells m coming id spin source number payload verdict.RetryTaken a h = cc
+  verdict_tells m coming id spin source number payload verdict.Versions a h = cc
   verdict_tells m coming id spin source number payload verdict.Seen a h =
       let tell : Move t = Tell (did.Piece (Some id) (Some number) verdict.Seen) in
       tells_then (did.Piece (Some id) (Some number) verdict.Seen) [] tell a _ refl (gives_here (move_to tell a))
@@ -245,15 +257,44 @@ module _ {t : Types} where
   opening_tells m coming (Some id) (Opened source token spin which number payload) a = opened_tells m coming id source token spin which number payload a
   opening_tells m coming None (Opened source token spin which number payload) a = told_as (did.Piece None None verdict.Ignored) a
 
-  piece_by : (m : Meaning t) (coming : Coming) (space : Option SpaceId) (o : Opening) (a : At t) (b : Bool) →
-      TellsPiece (if b then did.Piece space None verdict.Ignored else opening_deed a.state space o) (if b then [] else opening_gifts m coming a.state space o) a
-      (if b then piece_told space None verdict.Ignored a else opening_after m coming space o a)
-  piece_by m coming space o a true = told_as (did.Piece space None verdict.Ignored) a
-  piece_by m coming space o a false = opening_tells m coming space o a
+  -- a Retry that is taken
+  retry_tells : (m : Meaning t) (time : ℕ) (cid token : List ℕ) (a : At t) → TellsPiece (did.Piece None None verdict.RetryTaken) [] a (renewed_after m time cid token a)
+  unfolding renewed_after deeds_move
+  retry_tells m time cid token a =
+      let renew : Move t = Renew time cid token (new_keys m.seal_limit m.failure_limit (m.initial a.state.lower.session cid Client)) in
+      tells_then (did.Piece None None verdict.RetryTaken) [] renew a _ refl (armed_quiet time (move_to renew a))
+
+  -- a list of versions without this end's
+  versions_tells : (time : ℕ) (a : At t) → TellsPiece (did.Piece None None verdict.Versions) [] a (left_after time lost.VersionMismatch (piece_told None None verdict.Versions a))
+  unfolding deeds_move
+  versions_tells time a =
+      let d : Did = did.Piece None None verdict.Versions in
+      tells_then d [] (Tell d) a _ refl (left_quiet time lost.VersionMismatch (move_to (Tell d) a))
+
+  -- a packet without a number
+  unnumbered_tells : (m : Meaning t) (time : ℕ) (p : Piece) (a : At t) (v : Verdict) (h : ProtectedHeader) → p.header ≡ h → v ≡ first_row (unnumbered_rows m a.state h p.bytes) verdict.Ignored →
+      TellsPiece (unnumbered_deed v) [] a (unnumbered_after m time p v a)
+  unnumbered_tells m time p a verdict.RetryTaken (protected.Retry dst src version) is e =
+      subst (λ (x : ProtectedHeader). TellsPiece (did.Piece None None verdict.RetryTaken) [] a (retried_after m time x p.bytes a)) (sym is) (retry_tells m time src (retry_token (drop (ids_end dst src) p.bytes)) a)
+  unnumbered_tells m time p a verdict.RetryTaken (protected.VersionNegotiate random src dst) is e = absurd (no_retry _ e)
+  unnumbered_tells m time p a verdict.RetryTaken _ is e = absurd cc
+  unnumbered_tells m time p a verdict.Versions h is e = versions_tells time a
+  unnumbered_tells m time p a _ h is e = told_as (did.Piece None None verdict.Ignored) a
+
+  formed_tells : (m : Meaning t) (coming : Coming) (space : Option SpaceId) (p : Piece) (a : At t) → TellsPiece (formed_deed m a.state space p) (formed_gifts m coming a.state space p) a (formed_after m coming space p a)
+  unfolding unnumbered_verdict
+  formed_tells m coming None p a = unnumbered_tells m coming.time p a (unnumbered_verdict m a.state p) p.header refl refl
+  formed_tells m coming (Some id) p a = opening_tells m coming (Some id) (opening_of m a.state p) a
+
+  piece_by : (m : Meaning t) (coming : Coming) (space : Option SpaceId) (p : Piece) (a : At t) (b : Bool) →
+      TellsPiece (if b then did.Piece space None verdict.Ignored else formed_deed m a.state space p) (if b then [] else formed_gifts m coming a.state space p) a
+      (if b then piece_told space None verdict.Ignored a else formed_after m coming space p a)
+  piece_by m coming space p a true = told_as (did.Piece space None verdict.Ignored) a
+  piece_by m coming space p a false = formed_tells m coming space p a
 
   pub piece_tells : (m : Meaning t) (coming : Coming) (p : Piece) (a : At t) → TellsPiece (piece_deed m a.state p) (piece_gifts m coming a.state p) a (piece_after m coming p a)
   unfolding piece_after
-  piece_tells m coming p a = piece_by m coming (space_of p.header) (opening_of m a.state p) a (is_over a.state.life.state)
+  piece_tells m coming p a = piece_by m coming (space_of p.header) p a (is_over a.state.life.state)
 
   -- the packets of a datagram
   pub pieces_tell : (m : Meaning t) (coming : Coming) (items : List DatagramItem) (a : At t) → TellsPieces m coming items a

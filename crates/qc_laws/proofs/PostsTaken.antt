@@ -128,6 +128,7 @@ deeds_go (did.Gave layer.Streams body ∷ ds) made d h =
 deeds_go (did.Gave layer.Session body ∷ ds) made d h = deeds_go ds made d h
 deeds_go (did.Gave layer.Recovery body ∷ ds) made d h = deeds_go ds made d h
 deeds_go (did.Gave layer.Life body ∷ ds) made d h = deeds_go ds made d h
+deeds_go (did.Gave layer.Store body ∷ ds) made d h = deeds_go ds made d h
 deeds_go (did.Gave layer.Ids body ∷ ds) made d h = deeds_go ds made d h
 deeds_go (did.Sealed space n epoch early fs ∷ ds) made d h =
     let front : List Step = sealed_datagrams fs in

@@ -11,7 +11,7 @@ use Rattle.qc_frame.specs.Frame.{AckValue, FrameValue}
 use Rattle.qc_frame.specs.FrameSpelling.{spelling}
 use Rattle.qc_frame.specs.declared.frames.FrameOf.TheVariants as frames
 use Rattle.qc_path.specs.Pacing.{Bucket}
-use Rattle.qc_recovery.specs.Steps.{After, FiredAfter}
+use Rattle.qc_recovery.specs.Steps.{After, FiredAfter, path_dropped}
 use Rattle.qc_recovery.specs.declared.path.PathData.{PathData}
 use Rattle.qc_recovery.proofs.Named.{acked_acknowledged}
 use Rattle.qc_state.specs.declared.coming.Coming.{Coming}
@@ -32,7 +32,7 @@ use Rattle.qc_state.specs.Forms.{number_space, is_early}
 use Rattle.qc_state.specs.Keys.{epoch_in}
 use Rattle.qc_state.specs.Life.{is_open, is_over, rank_of}
 use Rattle.qc_state.specs.Lower.{bytes_came, flight_dropped, packet_flown, packets_settled, session_read, session_wrote, timer_fired, limits_learned, frame_handed, streams_closed, streams_stepped, datagrams_stepped, frames_sealed, ids_stepped}
-use Rattle.qc_state.specs.Moves.{Accept, Ack, Arm, Ask, Begin, Clock, Come, Confirm, PeerClosesToo, Enter, Establish, Expect, Fail, Finish, Fire, Fix, Forget, Give, Hear, IsTold, Learn, PeerCloses, MayMove, Move, Owe, Pace, Raise, Read, Ready, Release, Say, Seal, Shut, Skip, Take, Tell, Token, Want, Write, deeds_move, is_close, keys_move, life_move, lower_move, move_to, numbers_move, paths_move, setup_move, state_move, timers_move, waiting_move, Call, Hand, Post, Insert, Switch, Retire, Issue, Outlive, Hold, Spend, Probe, Discard, Unseal, Update}
+use Rattle.qc_state.specs.Moves.{Accept, Ack, Arm, Ask, Begin, Clock, Come, Confirm, PeerClosesToo, Enter, Establish, Expect, Fail, Finish, Fire, Fix, Forget, Give, Hear, IsTold, Learn, PeerCloses, MayMove, Move, Owe, Pace, Raise, Read, Ready, Release, Say, Seal, Shut, Skip, Take, Tell, Token, Want, Write, deeds_move, is_close, keys_move, life_move, lower_move, move_to, numbers_move, paths_move, setup_move, state_move, timers_move, waiting_move, Call, Hand, Post, Insert, Switch, Retire, Issue, Outlive, Hold, Spend, Probe, Discard, Unseal, Update, Renew}
 use Rattle.qc_state.specs.Numbers.{began_at, next_number, received_number}
 use Rattle.qc_state.specs.Paths.{is_blocked, path_accepted, path_kept, path_received, path_sent, path_spun, peer_fixed, spun_by, path_named, path_capped}
 use Rattle.qc_state.specs.Recovering.{around_of, fired_by, settled_by, shows_validated}
@@ -182,7 +182,7 @@ module _ {t : Types} where
   -- each move beside those with which a packet is taken and sealed, and those by which recovery is given an ACK
   move_parts : (m : Meaning t) (x : Move t) (s : View t) → IsKnownMove m x s → IsUnacked x → MayMove x s →
       AllMay m.control (steps_of x s) (kept s) × (kept (state_move x s) ≡ steps_after (steps_of x s) (kept s)) × ((id : SpaceId) → AreFlown id (deeds_move x s) (sent_in id (steps_of x s)))
-  unfolding steps_of step_after state_move lower_move paths_move deeds_move flight_dropped packets_settled timer_fired bytes_came session_read session_wrote limits_learned frame_handed streams_closed streams_stepped datagrams_stepped path_kept path_named path_received path_sent peer_fixed MayMove frames_sealed ids_stepped path_capped
+  unfolding path_dropped steps_of step_after state_move lower_move paths_move deeds_move flight_dropped packets_settled timer_fired bytes_came session_read session_wrote limits_learned frame_handed streams_closed streams_stepped datagrams_stepped path_kept path_named path_received path_sent peer_fixed MayMove frames_sealed ids_stepped path_capped
   move_parts m (Clock time) s k u may = absurd k
   move_parts m (Ask id) s k u may = (tt, refl, (λ id. refl))
   move_parts m (Take id fs) s k u may = absurd k
@@ -191,6 +191,7 @@ module _ {t : Types} where
   move_parts m (Expect token) s k u may = (tt, refl, (λ id. refl))
   move_parts m (Enter id n v) s k u may = (tt, refl, (λ id. refl))
   move_parts m Fail s k u may = (tt, refl, (λ id. refl))
+  move_parts m (Renew time cid token keys) s k u may = ((tt, tt), refl, (λ id. refl))
   move_parts m (Unseal time n which fresh session) s k u may = (tt, refl, (λ id. refl))
   move_parts m (Update fresh session) s k u may = (tt, refl, (λ id. refl))
   move_parts m Discard s k u may = (tt, refl, (λ id. refl))

@@ -21,7 +21,7 @@ use Rattle.qc_state.specs.Forms.{number_space}
 use Rattle.qc_state.specs.Headline.{deeds_of}
 use Rattle.qc_state.specs.Life.{is_open, is_over}
 use Rattle.qc_state.specs.Lower.{bytes_came, flight_dropped, packets_settled, ready_bytes, session_read, session_wrote, stream_of, timer_fired, limits_learned, frame_handed, streams_closed, streams_stepped, events_told, event_told, datagrams_stepped, frames_sealed, ids_stepped}
-use Rattle.qc_state.specs.Moves.{Accept, Ack, Ask, Begin, Come, Enter, Fire, Forget, Move, Read, Seal, Shut, Take, Tell, Write, deeds_move, lower_move, move_to, state_move, Hand, Call, Post, Issue, Update}
+use Rattle.qc_state.specs.Moves.{Accept, Ack, Ask, Begin, Come, Enter, Fire, Forget, Move, Read, Seal, Shut, Take, Tell, Write, deeds_move, lower_move, move_to, state_move, Hand, Call, Post, Issue, Update, Renew}
 use Rattle.qc_state.specs.Numbers.{next_number}
 use Rattle.qc_state.specs.Recovering.{settled_by}
 use Rattle.qc_state.specs.Receiving.{datagram_after}
@@ -87,6 +87,7 @@ module _ {t : Types} (id : SpaceId) where
   told_stays o (did.Gave layer.Session body) s h beside = absurd beside
   told_stays o (did.Gave layer.Recovery body) s h beside = absurd beside
   told_stays o (did.Gave layer.Life body) s h beside = (refl, refl)
+  told_stays o (did.Gave layer.Store body) s h beside = (refl, refl)
   told_stays o (did.Gave layer.Ids body) s h beside = (refl, refl)
   told_stays o (did.Gave layer.Streams body) s h beside = (refl, refl)
   told_stays o (did.Piece space number v) s h beside = (ap (λ (x : Option SpaceId). is_of id x) h.0, refl)
@@ -146,6 +147,7 @@ module _ {t : Types} (id : SpaceId) where
   move_within m o (Seal time form n size fs) a h beside = absurd h
   move_within m o (Begin space opens) a h beside = absurd h
   move_within m o (Fire after) a h beside = absurd h
+  move_within m o (Renew time cid token keys) a h beside = absurd h
   move_within m o (Come space offset bytes) a h beside = come_within (is_space id o.space) space offset bytes a (same_or id space)
   move_within m o (Tell d) a h beside = let both = told_stays o d a.state h beside in still_within (is_space id o.space) (Tell d) a refl both.0 both.1
   move_within m o (Enter space n v) a h beside = still_within (is_space id o.space) (Enter space n v) a refl (ap (λ (y : SpaceId). is_space id y) h.1.space) refl
@@ -204,7 +206,7 @@ module _ {t : Types} (id : SpaceId) where
   -- ---- inputs
 
   outside_kept : (time : ℕ) (x : Move t) (a : At t) → IsOutside time x a.state → Kept a (move_to x a)
-  unfolding lower_move deeds_move limits_learned streams_closed event_told events_told streams_stepped datagrams_stepped stream_of frames_sealed ids_stepped
+  unfolding lower_move deeds_move flight_dropped limits_learned streams_closed event_told events_told streams_stepped datagrams_stepped stream_of frames_sealed ids_stepped
   outside_kept time (Seal at form n size fs) a h = absurd h
   outside_kept time (Begin space opens) a h = absurd h
   outside_kept time (Come space offset bytes) a h = absurd h
@@ -216,6 +218,7 @@ module _ {t : Types} (id : SpaceId) where
   outside_kept time (Hand frame) a h = absurd h
   outside_kept time (Tell (did.Piece space number v)) a h = still_kept (Tell (did.Piece space number v)) a refl (λ now. refl)
   outside_kept time (Tell d) a h = absurd h
+  outside_kept time (Renew at cid token keys) a h = still_kept (Renew at cid token keys) a refl (λ now. refl)
   outside_kept time x a h = still_kept x a refl (λ now. refl)
 
   datagram_kept : (m : Meaning t) (coming : Coming) (bytes : List ℕ) (a : At t) → Kept a (datagram_after m coming bytes a)
@@ -235,6 +238,7 @@ module _ {t : Types} (id : SpaceId) where
   timed_kept (Ack space n after) h a = absurd h
   timed_kept (Write bytes keys session) h a = absurd h
   timed_kept (Hand frame) h a = absurd h
+  timed_kept (Renew at cid token keys) h a = absurd h
   timed_kept x h a = still_kept x a refl (λ now. refl)
 
   sending_kept : (x : Move t) → IsSending x → (a : At t) → Kept a (move_to x a)
@@ -250,6 +254,7 @@ module _ {t : Types} (id : SpaceId) where
   sending_kept (Begin space opens) h a = still_kept (Begin space opens) a (ap (λ (l : Lower t.S). stream_of l id) (begun_streams space opens a.state)) (λ now. refl)
   sending_kept (Write bytes keys session) h a = absurd h
   sending_kept (Hand frame) h a = absurd h
+  sending_kept (Renew at cid token keys) h a = absurd h
   sending_kept x h a = still_kept x a refl (λ now. refl)
 
   seal_kept : (time : ℕ) (form : Form) (fs : List FrameValue) (a : At t) → Kept a (move_to (Seal time form (next_number a.state.numbers (number_space form)) (packet_size a.state form fs) fs) (move_to (Take (number_space form) fs) a))

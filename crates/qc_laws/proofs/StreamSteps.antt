@@ -76,6 +76,7 @@ bytes_append id now (did.Gave layer.Session body ∷ ds) es =
     ap (λ (l : List ℕ). front ++ l) (bytes_append id now ds es) ∙ sym (append_assoc front (session_bytes id now ds) (session_bytes id (last_of id now ds) es))
 bytes_append id now (did.Gave layer.Recovery body ∷ ds) es = bytes_append id now ds es
 bytes_append id now (did.Gave layer.Life body ∷ ds) es = bytes_append id now ds es
+bytes_append id now (did.Gave layer.Store body ∷ ds) es = bytes_append id now ds es
 bytes_append id now (did.Gave layer.Ids body ∷ ds) es = bytes_append id now ds es
 bytes_append id now (did.Gave layer.Streams body ∷ ds) es = bytes_append id now ds es
 bytes_append id now (did.Sealed space n epoch early fs ∷ ds) es = bytes_append id now ds es

@@ -195,9 +195,9 @@ module _ {t : Types} where
   packet_frees m o free Establish a h may = frees_plain m free Establish a may tt
   packet_frees m o free x a h may = frees_plain m free x a tt tt
 
-  unopened_frees : (m : Meaning t) (time : ℕ) (free : Bool) (x : Move t) (a : At t) → IsUnopened time x → MayMove x a.state → Frees free a (move_to x a)
+  unopened_frees : (m : Meaning t) (time : ℕ) (free : Bool) (x : Move t) (a : At t) → IsUnopened time x a.state → MayMove x a.state → Frees free a (move_to x a)
   unfolding MayMove
-  unopened_frees m at_time free (Arm at) a h may = absurd h
+  unopened_frees m at_time free (Arm at) a h may = frees_timer free at_time at a h
   unopened_frees m at_time free (Seal time form n size fs) a h may = absurd h
   unopened_frees m at_time free (Finish bytes control) a h may = absurd h
   unopened_frees m at_time free (Probe time n bytes q) a h may = absurd h
@@ -213,7 +213,7 @@ module _ {t : Types} where
 
   pieces_free : (m : Meaning t) (coming : Coming) (free : Bool) (items : List DatagramItem) (a : At t) → Frees free a (pieces_after m coming items a)
   pieces_free m coming free items a =
-      pieces_hold m coming (λ p. Unit {0}) (Frees free) (frees_here free) (frees_next free) (λ x h b may. unopened_frees m coming.time free x b h may)
+      pieces_hold m coming (λ p. Unit {0}) (Frees free) (frees_here free) (frees_next free) (λ x b h may. unopened_frees m coming.time free x b h may)
       (λ p comes o b opened. holds_packet m o (Frees free) (frees_here free) (frees_next free) (λ x c h may. packet_frees m o free x c h may) b opened.lively) items a (λ p among. tt)
 
   -- the bytes of a datagram count, behind which the timer may be set

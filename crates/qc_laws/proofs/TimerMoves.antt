@@ -32,7 +32,7 @@ use Rattle.qc_state.specs.Flight.{counts_in_flight, flown_packet, is_padding}
 use Rattle.qc_state.specs.Forms.{number_space}
 use Rattle.qc_state.specs.Life.{connected_reported, data_ready, drained_reported, identifiers_wanted, is_established, is_handshake, is_open, life_closed, life_drained, life_established, life_raised, lost_reported, notice_reported, notices_reported, rank_of, ready_reported, reason_given, token_learned, all_heard_reported, heard_reported, datagram_heard, is_drained}
 use Rattle.qc_state.specs.Lower.{bytes_came, flight_dropped, packet_flown, packets_settled, session_read, session_wrote, timer_fired, limits_learned, frame_handed, streams_closed, streams_stepped, event_told, events_told, datagrams_stepped, frames_sealed, ids_stepped}
-use Rattle.qc_state.specs.Moves.{Accept, Ack, AreNext, Arm, Begin, Establish, Fail, Finish, Fire, Forget, Give, Hear, IsTold, Move, PeerCloses, PeerClosesToo, Probe, Raise, Seal, Shut, Take, Tell, Write, armed_with, deeds_move, keys_move, life_move, lower_move, move_to, paths_move, setup_move, state_move, timers_move, waiting_move, Hand, told_to_streams, Insert, Switch, Retire, Issue, Say, Spend, Unseal, Discard, Update}
+use Rattle.qc_state.specs.Moves.{Accept, Ack, AreNext, Arm, Begin, Establish, Fail, Finish, Fire, Forget, Give, Hear, IsTold, Move, PeerCloses, PeerClosesToo, Probe, Raise, Seal, Shut, Take, Tell, Write, armed_with, deeds_move, keys_move, life_move, lower_move, move_to, paths_move, setup_move, state_move, timers_move, waiting_move, Hand, told_to_streams, Insert, Switch, Retire, Issue, Say, Spend, Unseal, Discard, Update, Renew}
 use Rattle.qc_state.specs.Paths.{is_blocked, path_accepted, path_kept, path_spun, peer_fixed, path_named, path_capped}
 use Rattle.qc_state.specs.Recovering.{around_of, fired_by, is_validated_by_peer, loss_time, settled_by, probe_timeout_now}
 use Rattle.qc_state.specs.Sending.{flown_after, is_flown, packet_size, sealed_in, spent_after}
@@ -43,17 +43,18 @@ use Rattle.qc_state.specs.View.{View, At, at}
 use Rattle.qc_state.specs.Waiting.{waiting_without}
 use Rattle.rand_core.specs.Stream.{Stream}
 use Rattle.qc_state.specs.declared.keys.KeyGroup.{KeyGroup}
+use Rattle.qc_state.specs.declared.keys.SpaceKeys.{SpaceKeys}
 use Rattle.qc_state.specs.declared.setup.Setup.{Setup}
 use Rattle.qc_state.specs.Keys.{NewKeys, failure_counted, form_in, has_keys, has_keys_for, key_used, ring_of, sets_floor}
 use Rattle.qc_state.specs.Numbers.{next_number}
 use Rattle.qc_state.specs.Receiving.{is_below}
-use Rattle.qc_state.specs.Setup.{packet_drawn, parameters_known, token_expected, word_drawn}
+use Rattle.qc_state.specs.Setup.{packet_drawn, parameters_known, retry_taken, token_expected, word_drawn}
 use Rattle.qc_state.specs.Spaces.{is_space}
 use Rattle.qc_state.proofs.Quieted.{quiet_blocked}
-use Rattle.qc_state.proofs.KeySteps.{RingMoves, acked_moves, discarded_moves, keeping_same, no_ring_moves, opened_moves, same_keys, updated_moves}
+use Rattle.qc_state.proofs.KeySteps.{RingMoves, acked_moves, discarded_moves, keeping_same, no_ring_moves, opened_moves, same_keys, updated_moves, renewed_highest, renewed_keys}
 use Rattle.qc_state.proofs.Probed.{begun_streams}
 use Rattle.qc_laws.proofs.CryptoPlaces.{dropped_highest, dropped_keys, used_highest}
-use Rattle.qc_laws.proofs.TimerProbes.{Before, before_probes, dropped_keyed, failed_same, forget_before, form_keyed, given_below, given_confirmed, given_more, given_probe, probe_parts, unknown_confirmed, used_same}
+use Rattle.qc_laws.proofs.TimerProbes.{Before, before_probes, dropped_keyed, failed_same, forget_before, form_keyed, given_below, given_confirmed, given_more, given_probe, probe_parts, renew_before, unknown_confirmed, used_same}
 use Rattle.qc_laws.proofs.CryptoBuffers.{or_either, or_left, or_right}
 use Rattle.qc_laws.proofs.EndsHold.{low_open}
 use Rattle.qc_laws.proofs.KnownMoves.{IsFiredBy, IsSettledBy}
@@ -350,6 +351,7 @@ module _ {t : Types} where
       (fire_less m.control _ id _ s.lower.recovery s.paths.current.kept).any (λ (e : Entry). e.1.ack_eliciting) (subst (λ (a : FiredAfter t.C). has_eliciting (recovery.space_of id a.recovery).flight ≡ true) k.is h)
   plain_elicits m (Begin space opens) s id k h = ap (λ (l : Lower t.S). has_eliciting (recovery.space_of id l.recovery).flight) (sym (begun_streams space opens s)) ∙ h
   plain_elicits m (Forget space) s id k h = put_elicits id space (space_dropped (recovery.space_of space s.lower.recovery)) s.lower.recovery (λ e. absurd cc) h
+  plain_elicits m (Renew time cid token keys) s id k h = put_elicits id Initial (space_dropped (recovery.space_of Initial s.lower.recovery)) s.lower.recovery (λ e. absurd cc) h
   plain_elicits m _ s id k h = h
 
   -- ---- what stays of each space
@@ -377,6 +379,24 @@ module _ {t : Types} where
     below = λ e. ap (λ (x : SpaceId). is_below x id) (dropped_highest s.keys space) ∙ (h id).below (dropped_keys s.keys id space e).1;
   }
 
+  renew_space : (time : ℕ) (cid token : List ℕ) (keys : SpaceKeys t.H t.P) (s : View t) → Spaces s → (id : SpaceId) → SpaceHolds (state_move (Renew time cid token keys) s) id
+  unfolding state_move lower_move keys_move flight_dropped dropped_after space_dropped frames_sealed ids_stepped
+  renew_space time cid token keys s h Initial = record {
+    flight = dropped_each Initial Initial s.lower.recovery (λ x. (h x).flight);
+    keyed = λ e. absurd cc;
+    below = λ e. ap (λ (x : SpaceId). is_below x Initial) (renewed_highest s.keys keys) ∙ (h Initial).below (sym (renewed_keys s.keys keys Initial) ∙ e);
+  }
+  renew_space time cid token keys s h Handshake = record {
+    flight = dropped_each Handshake Initial s.lower.recovery (λ x. (h x).flight);
+    keyed = λ e. renewed_keys s.keys keys Handshake ∙ (h Handshake).keyed e;
+    below = λ e. ap (λ (x : SpaceId). is_below x Handshake) (renewed_highest s.keys keys) ∙ (h Handshake).below (sym (renewed_keys s.keys keys Handshake) ∙ e);
+  }
+  renew_space time cid token keys s h «Data» = record {
+    flight = dropped_each «Data» Initial s.lower.recovery (λ x. (h x).flight);
+    keyed = λ e. renewed_keys s.keys keys «Data» ∙ (h «Data»).keyed e;
+    below = λ e. ap (λ (x : SpaceId). is_below x «Data») (renewed_highest s.keys keys) ∙ (h «Data»).below (sym (renewed_keys s.keys keys «Data») ∙ e);
+  }
+
   write_space : (bytes : List ℕ) (keys : NewKeys t.H t.P) (session : t.S) (s : View t) → AreNext keys s.keys.highest → (id : SpaceId) → SpaceHolds s id → SpaceHolds (state_move (Write bytes keys session) s) id
   unfolding state_move lower_move keys_move session_wrote frames_sealed ids_stepped
   write_space bytes keys session s next id h = record { flight = h.flight; keyed = λ e. given_more s.keys keys id (h.keyed e); below = given_below s.keys keys id next h.below }
@@ -402,6 +422,7 @@ module _ {t : Types} where
   plain_spaces m (Write bytes keys session) s k h = λ id. write_space bytes keys session s k id (h id)
   plain_spaces m (Begin space opens) s k h = λ id. begun_space space opens s id (h id)
   plain_spaces m Fail s k h = λ id. fail_space s id (h id)
+  plain_spaces m (Renew time cid token keys) s k h = renew_space time cid token keys s h
   plain_spaces m (Unseal time n which fresh session) s k h = λ id. less_space s (state_move (Unseal time n which fresh session) s) id (opened_moves s.keys which n fresh) (less_here (recovery.space_of id s.lower.recovery)) (h id)
   plain_spaces m (Update fresh session) s k h = λ id. less_space s (state_move (Update fresh session) s) id (updated_moves s.keys fresh) (less_here (recovery.space_of id s.lower.recovery)) (h id)
   plain_spaces m Discard s k h = λ id. less_space s (state_move Discard s) id (discarded_moves s.keys) (less_here (recovery.space_of id s.lower.recovery)) (h id)
@@ -438,6 +459,10 @@ module _ {t : Types} where
   unfolding state_move lower_move keys_move setup_move flight_dropped frames_sealed ids_stepped
   forget_move space s other = forget_before space s (state_move (Forget space) s) other refl refl refl
 
+  renew_move : (time : ℕ) (cid token : List ℕ) (keys : SpaceKeys t.H t.P) (s : View t) → Before s (state_move (Renew time cid token keys) s)
+  unfolding state_move lower_move keys_move setup_move retry_taken flight_dropped frames_sealed ids_stepped
+  renew_move time cid token keys s = renew_before keys s (state_move (Renew time cid token keys) s) refl refl refl
+
   settled_before : (m : Meaning t) (space : SpaceId) (n : ℕ) (after : After t.C) (s : View t) → IsSettledBy m space after s → Before s (state_move (Ack space n after) s)
   unfolding state_move keys_move setup_move
   settled_before m space n after s k = less_before s (state_move (Ack space n after) s) refl (acked_moves s.keys space n) (λ id. settled_less m space id n after s k)
@@ -452,6 +477,7 @@ module _ {t : Types} where
   plain_probe m (Ack space n after) s k h e = before_probes s (state_move (Ack space n after) s) (settled_before m space n after s k) e
   plain_probe m (Fire after) s k h e = before_probes s (state_move (Fire after) s) (fired_before m after s k) e
   plain_probe m (Forget space) s k h e = before_probes s (state_move (Forget space) s) (forget_move space s k) e
+  plain_probe m (Renew time cid token keys) s k h e = before_probes s (state_move (Renew time cid token keys) s) (renew_move time cid token keys s) e
   plain_probe m (Write bytes keys session) s k h e = before_probes s (state_move (Write bytes keys session) s) (write_before bytes keys session s k h) e
   plain_probe m (Unseal time n which fresh session) s k h e = before_probes s (state_move (Unseal time n which fresh session) s) (less_before s (state_move (Unseal time n which fresh session) s) refl (opened_moves s.keys which n fresh) (λ id. less_here (recovery.space_of id s.lower.recovery))) e
   plain_probe m (Update fresh session) s k h e = before_probes s (state_move (Update fresh session) s) (less_before s (state_move (Update fresh session) s) refl (updated_moves s.keys fresh) (λ id. less_here (recovery.space_of id s.lower.recovery))) e

@@ -15,14 +15,16 @@ use Rattle.qc_state.specs.declared.keys.KeyGroup.{KeyGroup}
 use Rattle.qc_state.specs.declared.keys.OneRttKeys.{OneRttKeys}
 use Rattle.qc_state.specs.declared.keys.SpaceKeys.{SpaceKeys}
 use Rattle.qc_state.specs.Forms.{number_space}
-use Rattle.qc_state.specs.Keys.{NewKeys, NoKeys, HandshakeKeys, DataKeys, count_one, failure_counted, form_in, has_keys, has_keys_for, key_used, keys_dropped, keys_given, ring_used}
+use Rattle.qc_state.specs.Keys.{NewKeys, NoKeys, HandshakeKeys, DataKeys, count_one, failure_counted, form_in, has_keys, has_keys_for, initial_renewed, key_used, keys_dropped, keys_given, ring_used}
 use Rattle.qc_state.specs.Moves.{AreNext}
 use Rattle.qc_state.specs.Receiving.{is_below}
 use Rattle.qc_state.specs.Recovering.{is_validated_by_peer, validates}
 use Rattle.qc_laws.specs.TimerLaws.{has_asked, has_probe_keys, must_probe}
 use Rattle.qc_state.specs.Types.{Types}
 use Rattle.qc_state.specs.View.{View}
+use Rattle.qc_state.specs.declared.setup.Fixed.{Fixed}
 use Rattle.qc_state.specs.declared.setup.Setup.{Setup}
+use Rattle.qc_state.proofs.KeySteps.{still_some}
 use Rattle.rand_core.specs.Stream.{Stream}
 use Rattle.qc_state.specs.Spaces.{is_space}
 use Rattle.qc_laws.proofs.CryptoBuffers.{or_left, or_right}
@@ -243,6 +245,19 @@ module _ {t : Types} where
   -- ---- what moves leave
 
   -- the keys of the Initial or the Handshake space are dropped
+  -- a Retry was taken
+  pub renew_before : (keys : SpaceKeys t.H t.P) (s s' : View t) → s'.setup.fixed ≡ s.setup.fixed → s'.keys ≡ initial_renewed s.keys keys → s'.lower.recovery ≡ dropped_after Initial s.lower.recovery → Before s s'
+  unfolding has_asked has_probe_keys initial_renewed has_keys has_keys_for form_in dropped_after space_dropped
+  renew_before keys s s' fixed is lower = record {
+    side = ap (λ (x : Fixed). x.side) fixed;
+    greatest = λ id g. subst (λ (r : Recovery). is_some (recovery.space_of id r).greatest ≡ true) (sym lower) (kept_known id Initial s.lower.recovery g);
+    asked = λ e. without_first (is_some s.lower.recovery.initial.eliciting_at) (is_some s.lower.recovery.handshake.eliciting_at) (is_some s.lower.recovery.application.eliciting_at)
+        (ap (λ (r : Recovery). (is_some r.initial.eliciting_at || is_some r.handshake.eliciting_at) && not (is_some r.application.eliciting_at)) (sym lower) ∙ e);
+    confirmed = λ e. ap (λ (k : KeyGroup t.H t.P). is_some k.«data» && not (is_some k.handshake)) is ∙ e;
+    keys = λ e a u. ap (λ (b : Bool). if is_handshake s.keys.highest then is_some s.keys.handshake else b) (sym (still_some s.keys.initial keys))
+        ∙ (ap (λ (k : KeyGroup t.H t.P). if is_handshake k.highest then is_some k.handshake else is_some k.initial) (sym is) ∙ e);
+  }
+
   pub forget_before : (space : SpaceId) (s s' : View t) → is_space space «Data» ≡ false → s'.setup ≡ s.setup → s'.keys ≡ keys_dropped s.keys space → s'.lower.recovery ≡ dropped_after space s.lower.recovery → Before s s'
   unfolding has_asked has_probe_keys keys_dropped has_keys has_keys_for form_in dropped_after space_dropped
   forget_before Initial s s' other setup keys lower = record {

@@ -24,7 +24,7 @@ use Rattle.qc_state.specs.Life.{is_handshake, is_over}
 use Rattle.qc_state.specs.Moves.{Expect, life_move, move_to, paths_move, setup_move, state_move}
 use Rattle.qc_state.specs.Opening.{opening_of}
 use Rattle.qc_state.specs.Paths.{is_blocked, same_address}
-use Rattle.qc_state.specs.Receiving.{counted_after, cut_of, datagram_after, event_after, first_after, first_packet_after, first_token, has_first_ids, heard_after, is_readable, lets_in, opened_first, opening_after, piece_after, piece_told, pieces_after, received_after, token_in_first, token_in_items}
+use Rattle.qc_state.specs.Receiving.{counted_after, cut_of, datagram_after, event_after, first_after, first_packet_after, first_token, has_first_ids, heard_after, is_readable, lets_in, opened_first, opening_after, piece_after, piece_told, pieces_after, received_after, token_in_first, token_in_items, formed_after}
 use Rattle.qc_state.specs.Setup.{is_first_awaited, token_expected}
 use Rattle.qc_state.specs.Types.{Types, Meaning}
 use Rattle.qc_state.specs.Updating.{unsealed_after}
@@ -100,8 +100,8 @@ module _ {t : Types} (m : Meaning t) where
   unfolding piece_after
   first_piece coming p source token spin which number payload a over is_initial opens =
       let plain : (spin ≡ false) × (which ≡ None) = plain_one m a.state p source token spin which number payload is_initial opens in
-      ap (λ (x : Bool). if x then piece_told (space_of p.header) None verdict.Ignored a else opening_after m coming (space_of p.header) (opening_of m a.state p) a) over
-      ∙ ap (λ (x : Option SpaceId). opening_after m coming x (opening_of m a.state p) a) is_initial
+      ap (λ (x : Bool). if x then piece_told (space_of p.header) None verdict.Ignored a else formed_after m coming (space_of p.header) p a) over
+      ∙ ap (λ (x : Option SpaceId). formed_after m coming x p a) is_initial
       ∙ ap (λ (o : Opening). opening_after m coming (Some space.Initial) o a) opens
       ∙ ap (λ (w : Option Which). received_after m coming space.Initial spin source token number payload (unsealed_after m coming.time w number a)) plain.1
       ∙ ap (λ (b : Bool). received_after m coming space.Initial b source token number payload a) plain.0

@@ -45,7 +45,7 @@ use Rattle.qc_state.specs.Forms.{is_early, number_space}
 use Rattle.qc_state.specs.Keys.{epoch_in, has_keys}
 use Rattle.qc_state.specs.Life.{is_open}
 use Rattle.qc_state.specs.Lower.{bytes_came, datagrams_stepped, event_told, events_told, flight_dropped, frame_handed, frames_sealed, ids_stepped, limits_learned, packet_flown, packets_settled, session_read, session_wrote, streams_closed, streams_stepped, timer_fired}
-use Rattle.qc_state.specs.Moves.{Ack, Arm, Ask, Begin, Call, Fire, Forget, Issue, Move, Post, Probe, Seal, Shut, Skip, Spend, Take, armed_with, Give, deeds_move, lower_move, move_to, numbers_move, paths_move, state_move, waiting_move, Update}
+use Rattle.qc_state.specs.Moves.{Ack, Arm, Ask, Begin, Call, Fire, Forget, Issue, Move, Post, Probe, Seal, Shut, Skip, Spend, Take, armed_with, Give, deeds_move, lower_move, move_to, numbers_move, paths_move, state_move, waiting_move, Update, Renew}
 use Rattle.qc_state.specs.Numbers.{next_number}
 use Rattle.qc_state.specs.Offers.{datagram_waits, short_room, waits_in, wants_sending}
 use Rattle.qc_state.specs.Paths.{is_blocked_behind, path_kept}
@@ -250,6 +250,7 @@ module _ {t : Types} where
   move_fewer m (Seal time form n size fs) a k = absurd k
   move_fewer m (Begin id opens) a k = same_fewer a (move_to (Begin id opens) a) (ap (λ (l : Lower t.S). l.recovery) (begun_streams id opens a.state))
   move_fewer m (Forget id) a k = dropped_bytes id a.state.lower.recovery
+  move_fewer m (Renew time cid token keys) a k = dropped_bytes Initial a.state.lower.recovery
   move_fewer m (Ack id n after) a k =
       subst (λ (r : After t.C). all_bytes r.recovery ≤ in_flight a.state) (sym k.is) (settled_bytes m.control _ id _ _ _ _ _ a.state.lower.recovery a.state.paths.current.kept)
   move_fewer m (Fire after) a k = subst (λ (r : FiredAfter t.C). all_bytes r.recovery ≤ in_flight a.state) (sym k.is) (fired_bytes m.control _ _ a.state.lower.recovery a.state.paths.current.kept)

@@ -37,10 +37,12 @@ abbrev pub waits_in : ℕ → Option SendPart → Bool
 waits_in o None = false
 waits_in o (Some part) = is_kept o part.buffer.kept && is_awaited o part.buffer
 
+-- the same of a stream that may not be there
 abbrev pub waits_on : ℕ → Option Stream → Bool
 waits_on o None = false
 waits_on o (Some stream) = waits_in o stream.sending
 
+-- the byte at an offset of a stream waits in the state of all streams
 abbrev pub byte_waits : (id o : ℕ) → StreamsState → Bool
 byte_waits id o s = waits_on o (record_of id s.records)
 

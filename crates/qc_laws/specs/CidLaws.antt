@@ -27,13 +27,18 @@ use Rattle.qc_laws.specs.StreamsLaws.{frames_sealed, with_steps}
 -- ---- the ids of the peer's
 
 -- An id of the peer's with its number, where packets first carried the id `first`, the peer chose this one, or none, its parameters are these, or
--- none, and these frames were given to the ids (RFC 9000, section 5.1.1): 0 is that of the id which the peer chose, and of `first` until it did
--- (section 7.2); 1 that of an address which its parameters prefer (section 9.6); and any other came with its id in a NEW_CONNECTION_ID
+-- none, and these frames were given to the ids (RFC 9000, section 5.1.1): 0 is that of the id which the peer chose, with its first packet or with a
+-- Retry, and of `first` until it did (sections 7.2 and 17.2.5.1); 1 that of an address which its parameters prefer (section 9.6); and any other came with its id in a NEW_CONNECTION_ID
 -- (section 19.15).
 pub data IsPeers (first : List ℕ) (chosen : Option (List ℕ)) (parameters : Option TransportParameters) (given : List (List ℕ)) (sequence : ℕ) (id : List ℕ) : Type 0 where
   Chosen : sequence ≡ 0 → id ≡ chosen_or first chosen → IsPeers first chosen parameters given sequence id
   Preferred : (known : TransportParameters) (address : PreferredAddress) → parameters ≡ Some known → known.preferred_address ≡ Some address → sequence ≡ 1 → id ≡ address.id → IsPeers first chosen parameters given sequence id
   Given : (new : NewConnectionId) → Contains given (spelling (frames.NewConnectionId new)) → sequence ≡ new.sequence → id ≡ new.id → IsPeers first chosen parameters given sequence id
+
+-- the first of two ids that there is
+abbrev pub first_of : Option (List ℕ) → Option (List ℕ) → Option (List ℕ)
+first_of None other = other
+first_of (Some cid) other = Some cid
 
 -- a frame retires ids with numbers below this one at most; one that says more than that of its own id breaks a rule (RFC 9000, section 19.15)
 abbrev pub RetiresBelow : (sequence : ℕ) → FrameValue → Type 0
@@ -56,23 +61,28 @@ AllNameBelow n [] = Unit {0}
 AllNameBelow n (f ∷ fs) = NamesBelow n f × AllNameBelow n fs
 
 module _ {t : Types} where
+  -- the id that the peer chose, with its first packet or with a Retry, if it did
+  abbrev pub chosen_in : View t → Option (List ℕ)
+  chosen_in s = first_of s.paths.peer_cid s.setup.retry_cid
+
   -- From one view to another, between which these deeds were done: packets to the peer carry an id of its with this number. While the
   -- connection is open, no NEW_CONNECTION_ID that was given to the ids has retired it (RFC 9000, section 5.1.2). And each RETIRE_CONNECTION_ID
   -- in a packet that was sealed names a number below it: one that this end has moved on from, and never that of the id in use (section 19.16).
   pub record UsesPeers (ds : List Did) (s s' : View t) : Type 0 where
     pub number : ℕ
-    pub used : IsPeers s.paths.current.remote_cid s'.paths.peer_cid s'.setup.peer (given_to_ids ds) number s'.paths.current.remote_cid
+    pub used : IsPeers s.paths.current.remote_cid (chosen_in s') s'.setup.peer (given_to_ids ds) number s'.paths.current.remote_cid
     pub kept : is_open s'.life.state ≡ true → AllRetireBelow number (given_to_ids ds)
     pub retired : AllNameBelow number (frames_sealed ds)
 
   -- The ids are those of a connection that was just made: of the peer's the one that packets carry is known, which the peer chose, if it did,
-  -- and not its parameters; this end's are as long as its first one; it has no keys but Initial ones, and no packet is in flight.
+  -- and not its parameters, and no Retry was taken; this end's are as long as its first one; it has no keys but Initial ones, and no packet is in flight.
   pub record HasNewIds (s : View t) : Type 0 where
     pub local : LocalCids
     pub ids : s.lower.ids ≡ first_ids s.paths.current.remote_cid local
     pub size : local.cid_len ≡ length s.setup.fixed.local_cid
     pub chosen : (cid : List ℕ) → s.paths.peer_cid ≡ Some cid → cid ≡ s.paths.current.remote_cid
     pub parameters : s.setup.peer ≡ None
+    pub retry : s.setup.retry_cid ≡ None
     pub handshake : s.keys.handshake ≡ None
     pub one_rtt : s.keys.«data» ≡ None
     pub flight : (id : SpaceId) → (recovery.space_of id s.lower.recovery).flight ≡ []

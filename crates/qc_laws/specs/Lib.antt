@@ -15,6 +15,7 @@ pub mod PieceLaws
 pub mod PostLaws
 pub mod ReadLaws
 pub mod RecoveryLaws
+pub mod RetryLaws
 pub mod SealLaws
 pub mod StreamLaws
 pub mod StreamsLaws
@@ -24,3 +25,4 @@ pub mod WindowLaws
 pub mod WriteLaws
 pub mod MirrorLaws
 pub mod FitLaws
+pub mod ReasonLaws

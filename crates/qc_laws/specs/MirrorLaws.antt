@@ -51,6 +51,7 @@ abbrev pub told_here : SpaceId → (number epoch : ℕ) → (early : Bool) → L
 told_here «Data» number epoch false frames = (record { number = number; epoch = epoch; frames = frames }) ∷ []
 told_here _ number epoch early frames = []
 
+-- the 1-RTT packets that a list of deeds seals, in order
 abbrev pub sealed_told : List Did → List SealedTold
 sealed_told [] = []
 sealed_told (did.Sealed space number epoch early frames ∷ ds) = told_here space number epoch early frames ++ sealed_told ds
@@ -84,6 +85,7 @@ StandsAmong f [] = ⊥
 StandsAmong f (Ok read ∷ items) = (read.frame ≡ f) ⊎ StandsAmong f items
 StandsAmong f (Err fault ∷ items) = StandsAmong f items
 
+-- a frame stands in the payload of a packet
 abbrev pub StandsIn : FrameValue → (payload : List ℕ) → Type 0
 StandsIn f payload = StandsAmong f (items_of payload)
 

@@ -33,7 +33,7 @@ use Rattle.qc_state.specs.Recovering.{settled_by}
 use Rattle.qc_state.specs.Run.{IsStep, began}
 use Rattle.qc_state.specs.Types.{Types, Meaning}
 use Rattle.qc_state.specs.Updating.{unsealed_after}
-use Rattle.qc_state.specs.Verdicts.{verdict_of}
+use Rattle.qc_state.specs.Verdicts.{unnumbered_verdict, verdict_of}
 use Rattle.qc_state.specs.View.{View, At, at}
 
 -- the deeds that tell of packets which came, in order
@@ -102,9 +102,17 @@ gift_of stream (frames.Ack ack) = did.Gave layer.Recovery (spelling (frames.Ack 
 gift_of stream frames.HandshakeDone = did.Gave layer.Life (spelling frames.HandshakeDone) ∷ []
 gift_of stream (frames.ConnectionClose code type reason) = did.Gave layer.Life (spelling (frames.ConnectionClose code type reason)) ∷ []
 gift_of stream (frames.ApplicationClose code reason) = did.Gave layer.Life (spelling (frames.ApplicationClose code reason)) ∷ []
+gift_of stream (frames.NewToken token) = did.Gave layer.Store (spelling (frames.NewToken token)) ∷ []
 gift_of stream (frames.NewConnectionId new) = did.Gave layer.Ids (spelling (frames.NewConnectionId new)) ∷ []
 gift_of stream (frames.RetireConnectionId sequence) = did.Gave layer.Ids (spelling (frames.RetireConnectionId sequence)) ∷ []
 gift_of stream frame = told_to_streams frame
+
+-- what is told of a packet without a number, by its verdict: a Retry that is taken, a list of versions without this end's, or one that is
+-- ignored
+abbrev pub unnumbered_deed : Verdict → Did
+unnumbered_deed verdict.RetryTaken = did.Piece None None verdict.RetryTaken
+unnumbered_deed verdict.Versions = did.Piece None None verdict.Versions
+unnumbered_deed _ = did.Piece None None verdict.Ignored
 
 module _ {t : Types} where
   -- the session is given bytes of the space's CRYPTO stream, if there are any
@@ -192,12 +200,21 @@ module _ {t : Types} where
   opening_gifts m coming s (Some id) (Opened source token spin which number payload) = gifts_by m coming id spin source number payload (verdict_of s id source token number) (unsealed_after m coming.time which number (at s [])).state
   opening_gifts m coming s None (Opened source token spin which number payload) = []
 
+  -- what is told of a packet of a form with numbers of this space, or without
+  abbrev pub formed_deed : Meaning t → View t → Option SpaceId → Piece → Did
+  formed_deed m s None p = unnumbered_deed (unnumbered_verdict m s p)
+  formed_deed m s (Some id) p = opening_deed s (Some id) (opening_of m s p)
+
+  abbrev pub formed_gifts : Meaning t → Coming → View t → Option SpaceId → Piece → List Did
+  formed_gifts m coming s None p = []
+  formed_gifts m coming s (Some id) p = opening_gifts m coming s (Some id) (opening_of m s p)
+
   -- the same of a packet, which is ignored once the connection is over
   abbrev pub piece_deed : Meaning t → View t → Piece → Did
-  piece_deed m s p = if is_over s.life.state then did.Piece (space_of p.header) None verdict.Ignored else opening_deed s (space_of p.header) (opening_of m s p)
+  piece_deed m s p = if is_over s.life.state then did.Piece (space_of p.header) None verdict.Ignored else formed_deed m s (space_of p.header) p
 
   abbrev pub piece_gifts : Meaning t → Coming → View t → Piece → List Did
-  piece_gifts m coming s p = if is_over s.life.state then [] else opening_gifts m coming s (space_of p.header) (opening_of m s p)
+  piece_gifts m coming s p = if is_over s.life.state then [] else formed_gifts m coming s (space_of p.header) p
 
   -- From one moment to another this packet was told of, and what it gives to the layers: the first deed tells of it, no other tells of
   -- one, and what is given is what the applied frames of its payload give, if it is admitted, else nothing.

@@ -38,10 +38,11 @@ abbrev pub is_shrunk : Step → Bool
 is_shrunk (Shrunk most) = true
 is_shrunk _ = false
 
--- all of these steps are, and none is
+-- all of these steps are
 abbrev pub AreShrunk : List Step → Type 0
 AreShrunk xs = list_all is_shrunk xs ≡ true
 
+-- none of these steps is
 abbrev pub NoneShrunk : List Step → Type 0
 NoneShrunk xs = list_any is_shrunk xs ≡ false
 

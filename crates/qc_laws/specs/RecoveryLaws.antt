@@ -2,6 +2,7 @@
 use Rattle.std.specs.Prelude.{◌≡◌, ◌⊎◌, ℕ, min, ◌&&◌, Bool, true, false, if◌then◌else◌, List, [], ◌∷◌, ◌++◌, IsPermutation}
 use Rattle.std.specs.List.{list_any}
 use Rattle.qc_base.specs.declared.side.SpaceId.{SpaceId}
+use Rattle.qc_base.specs.declared.side.SpaceId.TheVariants.{Initial}
 use Rattle.qc_flight.specs.Packets.{Entry, has_number}
 use Rattle.qc_flight.specs.declared.sent.SentPacket.{SentPacket}
 use Rattle.qc_frame.specs.AckRanges.{Acknowledges}
@@ -26,7 +27,7 @@ use Rattle.qc_state.specs.declared.deeds.Verdict.{Verdict}
 use Rattle.qc_state.specs.declared.deeds.Verdict.TheVariants as verdict
 use Rattle.qc_state.specs.Flight.{counts_in_flight, flown_packet, kept_frames, metas_of}
 use Rattle.qc_state.specs.Forms.{number_space}
-use Rattle.qc_state.specs.Moves.{Move, Finish, Fire, Forget, Learn, Probe, Seal, Spend, is_close}
+use Rattle.qc_state.specs.Moves.{Move, Finish, Fire, Forget, Learn, Probe, Renew, Seal, Spend, is_close}
 use Rattle.qc_state.specs.Sending.{path_rate}
 use Rattle.qc_state.specs.Spaces.{is_space}
 use Rattle.qc_state.specs.Types.{Types, Meaning}
@@ -163,6 +164,7 @@ module _ {t : Types} where
   unfoldable pub steps_of : Move t → View t → List (RecoveryStep t.C)
   steps_of (Seal time form n size fs) s = if s.waiting.close_owed then [] else Sent (number_space form) n (flown_packet time size fs) ∷ []
   steps_of (Forget id) s = Dropped id ∷ []
+  steps_of (Renew time cid token keys) s = Dropped Initial ∷ []
   steps_of (Fire after) s = Fired after ∷ []
   steps_of (Spend tokens) s = Spent tokens ∷ []
   steps_of (Finish bytes control) s = Told control ∷ []
@@ -220,7 +222,7 @@ module _ {t : Types} where
     pub heard : (id : SpaceId) → acks_in id steps ≡ given_to_recovery id false ds
 
 -- Of a space, with these packets in flight before and those behind: each that was in flight, or was sealed there since and holds no close,
--- was acknowledged, or lost, or left with the space as its keys were dropped, or is in flight, and that once.
+-- was acknowledged, or lost, or left with the space as its keys were dropped or as a Retry had it begin anew, or is in flight, and that once.
 pub record SettlesOnce (id : SpaceId) (ds : List Did) (before after : List Entry) : Type 0 where
   pub sealed : List Entry
   pub acked : List Entry

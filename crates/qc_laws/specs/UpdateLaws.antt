@@ -96,6 +96,8 @@ is_unsealed verdict.Ignored = false
 is_unsealed verdict.Failure = false
 is_unsealed verdict.BadBits = false
 is_unsealed verdict.BadUpdate = false
+is_unsealed verdict.RetryTaken = false
+is_unsealed verdict.Versions = false
 is_unsealed verdict.Seen = true
 is_unsealed verdict.ReadForClose = true
 is_unsealed verdict.NumberOnly = true
@@ -106,6 +108,7 @@ is_unsealed verdict.Admitted = true
 abbrev pub unsealed_number : Option SpaceId → Option ℕ → Verdict → List ℕ
 unsealed_number space number v = if is_unsealed v && is_of «Data» space then option_to_list number else []
 
+-- the same numbers over a list of deeds
 abbrev pub unsealed_in : List Did → List ℕ
 unsealed_in [] = []
 unsealed_in (did.Piece space number v ∷ ds) = unsealed_number space number v ++ unsealed_in ds
@@ -116,6 +119,7 @@ abbrev pub sealed_here : SpaceId → (number epoch : ℕ) → (early : Bool) →
 sealed_here «Data» number epoch false = (number, epoch) ∷ []
 sealed_here _ number epoch early = []
 
+-- the same packets over a list of deeds
 abbrev pub sealed_under : List Did → List (ℕ × ℕ)
 sealed_under [] = []
 sealed_under (did.Sealed space number epoch early fs ∷ ds) = sealed_here space number epoch early ++ sealed_under ds

@@ -31,7 +31,9 @@ ghost use Rattle.qc_state.specs.Receiving.{datagram_after, event_after, first_pa
 ghost use Rattle.qc_laws.specs.PostLaws.{FoldsPosts, HasNewDatagrams, SealsSent, TakesTrace};
 ghost use Rattle.qc_laws.specs.ReadLaws.{HasNewStreams, ReadsTrace};
 ghost use Rattle.qc_rings.specs.declared.which.Which.{Which};
+ghost use Rattle.qc_laws.specs.ReasonLaws.{EachCauses};
 ghost use Rattle.qc_laws.specs.RecoveryLaws.{EachSettlesOnce, Recovers};
+ghost use Rattle.qc_laws.specs.RetryLaws.{EachMismatch, HasInitialKeys, TakesOneRetry};
 ghost use Rattle.qc_laws.specs.SealLaws.{EachSealsAnswer, KeepsFields, SealsBetween};
 ghost use Rattle.qc_base.specs.declared.side.Side.{Side};
 ghost use Rattle.qc_recovery.specs.TransportValues.{TransportValues};
@@ -153,6 +155,14 @@ pub fn keys_fit_their_session<U: Suite>()
     ensures { (s last : View ⟦<U as Means>⟧.types) (k : ℕ) (is : List Input) (xs : List Step) → Run ⟦<U as Means>⟧.meaning k s is xs last → AreLast s → next_number last.numbers «Data» ≤ 4611686018427387904 → KeysFit ⟦<U as Means>⟧.meaning U.Session.Session s → KeysFit ⟦<U as Means>⟧.meaning U.Session.Session last }
 {}
 
+/// A law, which runs no code. Over a run this end gives an error of its own with KEY_UPDATE_ERROR's code as the reason for the end (RFC 9001,
+/// 6.7) only where, in the same step, it closed right behind a packet that it tells as one with an update which its sender wasn't allowed to make
+/// (RFC 9001, 6.2 and 6.4); or right behind bytes that the session was given and refuses with this very error; or where the session, as calls
+/// since the step began left it, refuses the peer's parameters with it. So packets that don't open, frames, timers and transmits never bring it about.
+pub fn update_errors_are_caused<U: Suite>()
+    ensures { (s last : View ⟦<U as Means>⟧.types) (k : ℕ) (is : List Input) (xs : List Step) → Run ⟦<U as Means>⟧.meaning k s is xs last → EachCauses ⟦<U as Means>⟧.meaning k s is xs last }
+{}
+
 /// A law, which runs no code. Over a run a connection of which an end has closed comes to its end: while it is closed, or drains, the
 /// close timer stands (RFC 9000, 10.2), and once it has drained, no timer does; and a close is owed only where an end has closed.
 pub fn ends_hold<U: Suite>()
@@ -164,6 +174,25 @@ pub fn ends_hold<U: Suite>()
 /// 4.9.1), whose keys it drops, unless the connection ends before it does.
 pub fn initial_is_left<U: Suite>()
     ensures { (s last : View ⟦<U as Means>⟧.types) (k : ℕ) (is : List Input) (xs : List Step) → Run ⟦<U as Means>⟧.meaning k s is xs last → LeavesInitial (deeds_of xs) s last }
+{}
+
+/// A law, which runs no code. Over a run each Retry that is taken is taken by a client that the server hasn't answered: before any packet was accepted,
+/// and before any other Retry was taken, in the run or before it. Behind it, and behind a packet that is accepted, the client is answered; so at most
+/// one Retry is taken over the whole life, and none once a packet was accepted (RFC 9000, 17.2.5.2).
+pub fn one_retry_is_taken<U: Suite>()
+    ensures { (s last : View ⟦<U as Means>⟧.types) (k : ℕ) (is : List Input) (xs : List Step) → Run ⟦<U as Means>⟧.meaning k s is xs last → TakesOneRetry (deeds_of xs) s last }
+{}
+
+/// A law, which runs no code. Over a run the keys of the Initial space, while there are any, are those that the session gives of the destination id of
+/// the client's first packets, or, once a Retry was taken, of its source id (RFC 9001, 5.2), where they were so at the start.
+pub fn initial_keys_are_named<U: Suite>()
+    ensures { (s last : View ⟦<U as Means>⟧.types) (k : ℕ) (is : List Input) (xs : List Step) → Run ⟦<U as Means>⟧.meaning k s is xs last → HasInitialKeys ⟦<U as Means>⟧.meaning s → HasInitialKeys ⟦<U as Means>⟧.meaning last }
+{}
+
+/// A law, which runs no code. Over a run VersionMismatch is given as the reason for the end only behind a packet that is told as a list of versions
+/// without this end's, before the next packet is told of, in the same step (RFC 9000, 6.2).
+pub fn mismatches_are_listed<U: Suite>()
+    ensures { (s last : View ⟦<U as Means>⟧.types) (k : ℕ) (is : List Input) (xs : List Step) → Run ⟦<U as Means>⟧.meaning k s is xs last → EachMismatch xs }
 {}
 
 /// A law, which runs no code. Over a run what loss recovery keeps, of the packets and of the path, is what its own steps leave, one after

@@ -281,6 +281,7 @@ pub(crate) fn made<U: Suite>(
                 application: SpaceNumbers::new(now),
             },
             filter,
+            opened: false,
         },
         keys: KeyGroup::new(keys),
         life: life(alloc),
@@ -292,6 +293,7 @@ pub(crate) fn made<U: Suite>(
             peer: None,
             token: None,
             initial_token: token,
+            retry_cid: None,
             random,
         },
         lower: Lower {

@@ -31,7 +31,7 @@ use Rattle.qc_state.specs.Life.{is_handshake, is_over}
 use Rattle.qc_state.specs.Moves.{Expect, move_to, state_move, deeds_move, numbers_move, keys_move, life_move, paths_move, setup_move}
 use Rattle.qc_state.specs.Opening.{opening_of}
 use Rattle.qc_state.specs.Paths.{is_blocked, same_address}
-use Rattle.qc_state.specs.Receiving.{is_initial_with, has_first_ids, opened_token, token_in_first, token_in_items, first_token, first_after, is_taken, lets_in, cut_of, counted_after, heard_after, datagram_after, opening_after, received_after, piece_told, piece_after, pieces_after}
+use Rattle.qc_state.specs.Receiving.{is_initial_with, has_first_ids, opened_token, token_in_first, token_in_items, first_token, first_after, is_taken, lets_in, cut_of, counted_after, heard_after, datagram_after, formed_after, opening_after, received_after, piece_told, piece_after, pieces_after}
 use Rattle.qc_state.specs.Setup.{is_first_awaited, ideal_setup, token_expected}
 use Rattle.qc_state.specs.declared.setup.Setup.{Setup}
 use Rattle.qc_state.specs.Types.{Types, Meaning}
@@ -156,8 +156,8 @@ module _ {t : Types} (m : Meaning t) where
       piece_after m coming p a ≡ received_after m coming space.Initial spin source token number payload a
   unfolding piece_after has_first_ids
   first_piece coming p source token spin number payload a shakes ids opens =
-      ap (λ (x : Bool). if x then piece_told (space_of p.header) None verdict.Ignored a else opening_after m coming (space_of p.header) (opening_of m a.state p) a) (handshake_not_over a.state.life.state shakes)
-      ∙ ap (λ (x : Option SpaceId). opening_after m coming x (opening_of m a.state p) a) (initial_space a.state.setup.fixed.first_cid a.state.paths.current.remote_cid p.header ids)
+      ap (λ (x : Bool). if x then piece_told (space_of p.header) None verdict.Ignored a else formed_after m coming (space_of p.header) p a) (handshake_not_over a.state.life.state shakes)
+      ∙ ap (λ (x : Option SpaceId). formed_after m coming x p a) (initial_space a.state.setup.fixed.first_cid a.state.paths.current.remote_cid p.header ids)
       ∙ ap (λ (o : Opening). opening_after m coming (Some space.Initial) o a) opens
 
   -- its packets do what they do

@@ -5,6 +5,7 @@ mod events;
 mod opening;
 mod receiving;
 mod short;
+mod unnumbered;
 
 pub use events::{ConnectionEvent, event, first_packet};
 pub use receiving::{datagram, first_datagram};

@@ -12,6 +12,7 @@ ghost use Rattle.qc_state.specs.Setup.{is_first_awaited};
 
 use crate::opening::open_piece;
 use crate::short::{is_short, short_piece};
+use crate::unnumbered::unnumbered;
 use bytes::{Bytes, BytesMut};
 use qc_admit::received;
 use qc_base::{ConnectionId, Instant, SpaceId};
@@ -157,8 +158,13 @@ fn one_piece<U: Suite>(
     if core.life.is_over() {
         return core.do_tell_piece(did, space, None, Verdict::Ignored);
     }
-    let opening = open_piece(core, partial)?;
-    opened(core, alloc, did, coming, space, opening)
+    match space {
+        None => unnumbered(core, alloc, did, coming.time, &partial),
+        Some(_) => {
+            let opening = open_piece(core, partial)?;
+            opened(core, alloc, did, coming, space, opening)
+        }
+    }
 }
 
 /// The packets of a datagram behind its first one. Want of memory is the only refusal.

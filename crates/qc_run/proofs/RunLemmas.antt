@@ -35,7 +35,7 @@ use Rattle.rand_core.specs.Stream.{Stream}
 use Rattle.qc_run.specs.Words.{words_named, words_of}
 use Rattle.qc_run.specs.declared.random.ScriptRandom.{ScriptRandom}
 use Rattle.std.specs.declared.net.socket_addr.SocketAddr.{SocketAddr}
-use Rattle.qc_run.specs.RunText.{mtud_of, IsAddressOf, IsScriptEnd, IsToyRun, IsToyRefusal, IsToldRun, IsRefusalTold, Sessions, client_session, server_session, script_client, script_server, view_for, local_of, remote_of, first_of, token_of, start_of, transport_of, INITIAL_WINDOW, toy}
+use Rattle.qc_run.specs.RunText.{mtud_of, IsAddressOf, IsScriptEnd, IsToyRun, IsToyRefusal, IsToldRun, IsRefusalTold, Sessions, client_session, server_session, script_client, script_server, view_for, local_of, remote_of, first_of, token_of, start_of, validated_of, transport_of, INITIAL_WINDOW, toy}
 
 -- its trace, as a text
 toy_run_of : (s : Sessions) (h : HeaderMaskGhosts ToyHeaderKey) (p : PacketKeyGhosts ToyPacketKey) (c : ControllerGhosts Reno) (set : Settings) (end : Seen toy ScriptRandom) (inputs : List Input) (steps : List Step) (last : View toy) (text : List ℕ)
@@ -90,7 +90,7 @@ client_made s h p c set view session words version local lifetime ip allow trans
 
 -- and so the server
 server_made : (s : Sessions) (h : HeaderMaskGhosts ToyHeaderKey) (p : PacketKeyGhosts ToyPacketKey) (c : ControllerGhosts Reno) (set : Settings) (view : View toy) (session : ToySession) (words : Stream) (version : ℕ) (local : List ℕ) (lifetime : Option ℕ) (preferred : Bool) (ip : Option IpAddr) (allow : Bool) (transport : TransportValues) (control : ℕ) (grease : Bool) (remote : SocketAddr) (first remote_cid : List ℕ) (validated : Bool) (time : ℕ)
-    → session ≡ server_session set → words ≡ words_named set.random → version ≡ 1 → local ≡ local_of set → lifetime ≡ None → preferred ≡ false → ip ≡ None → allow ≡ mtud_of set → transport ≡ transport_of set → control ≡ INITIAL_WINDOW → grease ≡ true → first ≡ first_of set → remote_cid ≡ remote_of set → validated ≡ false → time ≡ start_of set
+    → session ≡ server_session set → words ≡ words_named set.random → version ≡ 1 → local ≡ local_of set → lifetime ≡ None → preferred ≡ false → ip ≡ None → allow ≡ mtud_of set → transport ≡ transport_of set → control ≡ INITIAL_WINDOW → grease ≡ true → first ≡ first_of set → remote_cid ≡ remote_of set → validated ≡ validated_of set → time ≡ start_of set
     → view ≡ server_view (meaning s h p c) session words (fixed_of Server version local first lifetime preferred ip (allowed_by allow transport) grease words) remote remote_cid validated (allowed_by allow transport) (new_reno control (first_size (allowed_by allow transport) None)) time → view ≡ script_server s h p c set remote
 server_made s h p c set view session words version local lifetime preferred ip allow transport control grease remote first remote_cid validated time es ew ev el em ep ei ea et ec eg ef er eu en e = rw (es, ew, ev, el, em, ep, ei, ea, et, ec, eg, ef, er, eu, en) at e
 
@@ -105,7 +105,7 @@ client_end s h p c set end session words version local lifetime ip allow transpo
     end_of s h p c set Client end remote side address (client_made s h p c set (ideal words_of end.core) session words version local lifetime ip allow transport control grease remote first token time es ew ev el em ei ea et ec eg ef ek en e)
 
 pub server_end : (s : Sessions) (h : HeaderMaskGhosts ToyHeaderKey) (p : PacketKeyGhosts ToyPacketKey) (c : ControllerGhosts Reno) (set : Settings) (end : Seen toy ScriptRandom) (session : ToySession) (words : Stream) (version : ℕ) (local : List ℕ) (lifetime : Option ℕ) (preferred : Bool) (ip : Option IpAddr) (allow : Bool) (transport : TransportValues) (control : ℕ) (grease : Bool) (remote : SocketAddr) (first remote_cid : List ℕ) (validated : Bool) (time : ℕ)
-    → set.side ≡ Server → IsAddressOf set.addr remote → session ≡ server_session set → words ≡ words_named set.random → version ≡ 1 → local ≡ local_of set → lifetime ≡ None → preferred ≡ false → ip ≡ None → allow ≡ mtud_of set → transport ≡ transport_of set → control ≡ INITIAL_WINDOW → grease ≡ true → first ≡ first_of set → remote_cid ≡ remote_of set → validated ≡ false → time ≡ start_of set
+    → set.side ≡ Server → IsAddressOf set.addr remote → session ≡ server_session set → words ≡ words_named set.random → version ≡ 1 → local ≡ local_of set → lifetime ≡ None → preferred ≡ false → ip ≡ None → allow ≡ mtud_of set → transport ≡ transport_of set → control ≡ INITIAL_WINDOW → grease ≡ true → first ≡ first_of set → remote_cid ≡ remote_of set → validated ≡ validated_of set → time ≡ start_of set
     → ideal words_of end.core ≡ server_view (meaning s h p c) session words (fixed_of Server version local first lifetime preferred ip (allowed_by allow transport) grease words) remote remote_cid validated (allowed_by allow transport) (new_reno control (first_size (allowed_by allow transport) None)) time → IsScriptEnd s h p c set end
 server_end s h p c set end session words version local lifetime preferred ip allow transport control grease remote first remote_cid validated time side address es ew ev el em ep ei ea et ec eg ef er eu en e =
     end_of s h p c set Server end remote side address (server_made s h p c set (ideal words_of end.core) session words version local lifetime preferred ip allow transport control grease remote first remote_cid validated time es ew ev el em ep ei ea et ec eg ef er eu en e)

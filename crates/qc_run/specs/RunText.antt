@@ -72,6 +72,14 @@ remote_of s = unwrap_or s.remote (replicate 8 2)
 abbrev pub first_of : Settings → List ℕ
 first_of s = unwrap_or s.first (replicate 8 3)
 
+-- so that before its Retry
+abbrev pub orig_of : Settings → List ℕ
+orig_of s = unwrap_or s.orig (first_of s)
+
+-- whether a server's peer has a validated address
+abbrev pub validated_of : Settings → Bool
+validated_of s = unwrap_or s.validated false
+
 -- the token that a client's Initial packets carry
 abbrev pub token_of : Settings → List ℕ
 token_of s = unwrap_or s.token []
@@ -124,9 +132,10 @@ parameters_of s = announced_parameters (transport_of s) 1472 (local_of s) true
 abbrev pub reset_token_of : Settings → List ℕ
 reset_token_of s = take 16 (toy_signature (replicate 16 0) (local_of s))
 
--- what a server announces beside that: the destination id of the client's first packets, and the token that resets the connection
+-- what a server announces beside that: the destination id of the client's packets before its Retry, the source id of its Retry, if it sent one,
+-- and the token that resets the connection (RFC 9000, sections 7.3 and 10.3)
 abbrev pub server_parameters_of : Settings → TransportParameters
-server_parameters_of s = record (parameters_of s) { original_dst_cid = Some (first_of s); stateless_reset_token = Some (reset_token_of s) }
+server_parameters_of s = record (parameters_of s) { original_dst_cid = Some (orig_of s); retry_src_cid = s.retry; stateless_reset_token = Some (reset_token_of s) }
 
 -- the session of a script's client
 abbrev pub client_session : Settings → ToySession
@@ -158,12 +167,12 @@ script_client s h p c set remote =
     (fixed_of Client 1 (local_of set) (remote_of set) None false None (allowed_of set) true (words_named set.random))
     remote (remote_of set) (token_of set) (allowed_of set) (control_of (allowed_of set)) (start_of set)
 
--- so the server, which announces no preferred address, and whose client's address isn't validated
+-- so the server, which announces no preferred address
 abbrev pub script_server : Sessions → HeaderMaskGhosts ToyHeaderKey → PacketKeyGhosts ToyPacketKey → ControllerGhosts Reno → Settings → SocketAddr → View toy
 script_server s h p c set remote =
     server_view (meaning s h p c) (server_session set) (words_named set.random)
     (fixed_of Server 1 (local_of set) (first_of set) None false None (allowed_of set) true (words_named set.random))
-    remote (remote_of set) false (allowed_of set) (control_of (allowed_of set)) (start_of set)
+    remote (remote_of set) (validated_of set) (allowed_of set) (control_of (allowed_of set)) (start_of set)
 
 -- the end of this side
 abbrev pub view_for : Side → Sessions → HeaderMaskGhosts ToyHeaderKey → PacketKeyGhosts ToyPacketKey → ControllerGhosts Reno → Settings → SocketAddr → View toy

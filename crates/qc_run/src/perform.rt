@@ -4,7 +4,7 @@ ghost use Rattle.std.specs.Prelude.{true, false, replicate, unwrap_or, ◌≡◌
 ghost use Rattle.qc_script.specs.Fields.{IsAddress};
 ghost use Rattle.qc_text.specs.OneText.{IsPlainStart};
 ghost use Rattle.qc_run.specs.Words.{words_named, words_of};
-ghost use Rattle.qc_run.specs.RunText.{mtud_of, IsScriptAddress, IsAddressOf, IsScriptEnd, IsToyRun, IsToyRefusal, IsToldRun, IsRefusalTold, client_session, server_session, parameters_of, reset_token_of, server_parameters_of, settings_of, transport_of, INITIAL_WINDOW, local_of, remote_of, first_of, start_of, view_for};
+ghost use Rattle.qc_run.specs.RunText.{mtud_of, IsScriptAddress, IsAddressOf, IsScriptEnd, IsToyRun, IsToyRefusal, IsToldRun, IsRefusalTold, client_session, server_session, parameters_of, reset_token_of, server_parameters_of, settings_of, transport_of, INITIAL_WINDOW, local_of, orig_of, remote_of, first_of, start_of, validated_of, view_for};
 
 use crate::random::{ScriptRandom, random_of};
 use crate::token::OneToken;
@@ -139,8 +139,18 @@ fn reset_token_of(alloc: Global, set: &Settings) -> Result<ResetToken, AllocErro
     reset_token(alloc, &ToyHmacKey::new([0; 16]), id_or(set.local, 1))
 }
 
-/// What a server announces: beside the transport the destination id of the client's first packets, and the token that resets
-/// the connection.
+/// The destination id of the client's packets before its Retry: the one that a line gives, or that of its first packets.
+fn orig_or(set: &Settings) -> ConnectionId
+    ensures { result ≡ orig_of set.now }
+{
+    match set.orig {
+        Some(id) => id,
+        None => id_or(set.first, 3),
+    }
+}
+
+/// What a server announces: beside the transport the destination id of the client's packets before its Retry, the source id of its Retry, if
+/// it sent one, and the token that resets the connection.
 fn server_parameters(
     set: &Settings,
     transport: &TransportConfig,
@@ -151,7 +161,8 @@ fn server_parameters(
     ensures { result ≡ server_parameters_of set.now }
 {
     let mut params = announced(transport, MAX_UDP_PAYLOAD, id_or(set.local, 1), true);
-    params.original_dst_cid = Some(id_or(set.first, 3));
+    params.original_dst_cid = Some(orig_or(set));
+    params.retry_src_cid = set.retry;
     params.stateless_reset_token = Some(token);
     params
 }
@@ -233,7 +244,7 @@ fn server_setup(alloc: Global, set: &Settings) -> Result<ServerSetup<Toy>, Alloc
     ensures control { IfOk result (λ setup. setup.control ≡ INITIAL_WINDOW) }
     ensures grease { IfOk result (λ setup. setup.grease_quic_bit ≡ true) }
     ensures remote { IfOk result (λ setup. IsAddressOf set.now.addr setup.remote) }
-    ensures validated { IfOk result (λ setup. setup.validated ≡ false) }
+    ensures validated { IfOk result (λ setup. setup.validated ≡ validated_of set.now) }
 {
     let transport = transport_with(set);
     let local_cid = id_or(set.local, 1);
@@ -255,7 +266,7 @@ fn server_setup(alloc: Global, set: &Settings) -> Result<ServerSetup<Toy>, Alloc
         remote_cid: id_or(set.remote, 2),
         migration: true,
         preferred: false,
-        validated: false,
+        validated: set.validated.unwrap_or(false),
     })
 }
 

@@ -8,11 +8,11 @@ use Rattle.qc_state.specs.declared.input.Input.{Input}
 use Rattle.qc_script.specs.declared.settings.RandomWords.{RandomWords}
 use Rattle.qc_script.specs.declared.settings.Settings.{Settings}
 use Rattle.qc_script.specs.declared.settings.Setting.{Setting}
-use Rattle.qc_script.specs.declared.settings.Setting.TheVariants.{Random, Time, Local, Remote, First, Addr, Token, Secret, LimitInitial, LimitHandshake, LimitData, LimitFailures, Idle, Mtud, Gso}
+use Rattle.qc_script.specs.declared.settings.Setting.TheVariants.{Random, Time, Local, Remote, First, Orig, Retry, Addr, Validated, Token, Secret, LimitInitial, LimitHandshake, LimitData, LimitFailures, Idle, Mtud, Gso}
 use Rattle.qc_script.specs.declared.items.Item.{Item}
 use Rattle.qc_script.specs.declared.items.Item.TheVariants as It
 use Rattle.qc_script.specs.Fields.{hex_field, address_text, flag_text, IsAddress}
-use Rattle.qc_script.specs.Script.{random_text, line_if, side_line, set_lines, input_line, IsWithin, AllWithin, IsRandom, IsId, IsRemote, IsFirst, IsToken, IsSecret, AreSettings}
+use Rattle.qc_script.specs.Script.{random_text, line_if, side_line, set_lines, input_line, IsWithin, AllWithin, IsRandom, IsId, IsRemote, IsFirst, IsValidated, IsToken, IsSecret, AreSettings}
 use Rattle.qc_script.specs.Items.{setting_line, IsSetting, IsNextSetting, IsNextItem, setting_place, with_setting, side_alone, item_line, IsItem, item_place, Follows, settings_after, inputs_after}
 use Rattle.qc_script.proofs.LineLemmas.{input_line_injective, word_of, fields_of, line_parts}
 use Rattle.qc_script.proofs.SettingLemmas.{setting_line_injective, setting_no_input, setting_ends}
@@ -120,9 +120,10 @@ input_items (i ∷ inputs) = It.Input i ∷ input_items inputs
 abbrev pub items_of : Settings → List Input → List Item
 items_of s inputs =
     item_if Random s.random ++ (item_if Time s.time ++ (item_if Local s.local ++ (item_if Remote s.remote
-    ++ (item_if First s.first ++ (item_if Addr s.addr ++ (item_if Token s.token ++ (item_if Secret s.secret
-    ++ (item_if LimitInitial s.limit_initial ++ (item_if LimitHandshake s.limit_handshake ++ (item_if LimitData s.limit_data ++ (item_if LimitFailures s.limit_failures
-    ++ (item_if Idle s.idle ++ (item_if Mtud s.mtud ++ (item_if Gso s.gso ++ input_items inputs))))))))))))))
+    ++ (item_if First s.first ++ (item_if Orig s.orig ++ (item_if Retry s.retry ++ (item_if Addr s.addr
+    ++ (item_if Validated s.validated ++ (item_if Token s.token ++ (item_if Secret s.secret ++ (item_if LimitInitial s.limit_initial
+    ++ (item_if LimitHandshake s.limit_handshake ++ (item_if LimitData s.limit_data ++ (item_if LimitFailures s.limit_failures ++ (item_if Idle s.idle
+    ++ (item_if Mtud s.mtud ++ (item_if Gso s.gso ++ input_items inputs)))))))))))))))))
 
 -- the set lines of each kind
 abbrev randoms : Settings → List (List ℕ)
@@ -140,8 +141,17 @@ remotes s = line_if (codes "set remote ") hex_field s.remote
 abbrev firsts : Settings → List (List ℕ)
 firsts s = line_if (codes "set first ") hex_field s.first
 
+abbrev origs : Settings → List (List ℕ)
+origs s = line_if (codes "set orig ") hex_field s.orig
+
+abbrev retries : Settings → List (List ℕ)
+retries s = line_if (codes "set retry ") hex_field s.retry
+
 abbrev addrs : Settings → List (List ℕ)
 addrs s = line_if (codes "set addr ") address_text s.addr
+
+abbrev validateds : Settings → List (List ℕ)
+validateds s = line_if (codes "set validated ") flag_text s.validated
 
 abbrev tokens : Settings → List (List ℕ)
 tokens s = line_if (codes "set token ") hex_field s.token
@@ -180,9 +190,9 @@ input_lines : (inputs : List Input) → map input_line inputs ≡ map item_line 
 input_lines [] = refl
 input_lines (i ∷ inputs) = ap (λ (ls : List (List ℕ)). input_line i ∷ ls) (input_lines inputs)
 
-regrouped : (a b c d e f g h i j k l m n o p : List (List ℕ))
-    → (a ++ (b ++ (c ++ (d ++ (e ++ (f ++ (g ++ (h ++ (i ++ (j ++ (k ++ (l ++ (m ++ (n ++ o)))))))))))))) ++ p ≡ a ++ (b ++ (c ++ (d ++ (e ++ (f ++ (g ++ (h ++ (i ++ (j ++ (k ++ (l ++ (m ++ (n ++ (o ++ p))))))))))))))
-regrouped a b c d e f g h i j k l m n o p = simp append_assoc
+regrouped : (a b c d e f g h i j k l m n o p q r s : List (List ℕ))
+    → (a ++ (b ++ (c ++ (d ++ (e ++ (f ++ (g ++ (h ++ (i ++ (j ++ (k ++ (l ++ (m ++ (n ++ (o ++ (p ++ (q ++ r))))))))))))))))) ++ s ≡ a ++ (b ++ (c ++ (d ++ (e ++ (f ++ (g ++ (h ++ (i ++ (j ++ (k ++ (l ++ (m ++ (n ++ (o ++ (p ++ (q ++ (r ++ s)))))))))))))))))
+regrouped a b c d e f g h i j k l m n o p q r s = simp append_assoc
 
 pub script_lines : (s : Settings) (inputs : List Input) → set_lines s ++ map input_line inputs ≡ side_line s.side ∷ map item_line (items_of s inputs)
 unfolding set_lines setting_line
@@ -196,13 +206,16 @@ script_lines s inputs =
     let initial = lines_if (codes "set limit_initial ") decimal LimitInitial s.limit_initial _ _ (λ v. refl) handshake in
     let secret = lines_if (codes "set secret ") hex_field Secret s.secret _ _ (λ v. refl) initial in
     let token = lines_if (codes "set token ") hex_field Token s.token _ _ (λ v. refl) secret in
-    let addr = lines_if (codes "set addr ") address_text Addr s.addr _ _ (λ v. refl) token in
-    let first = lines_if (codes "set first ") hex_field First s.first _ _ (λ v. refl) addr in
+    let validated = lines_if (codes "set validated ") flag_text Validated s.validated _ _ (λ v. refl) token in
+    let addr = lines_if (codes "set addr ") address_text Addr s.addr _ _ (λ v. refl) validated in
+    let retry = lines_if (codes "set retry ") hex_field Retry s.retry _ _ (λ v. refl) addr in
+    let orig = lines_if (codes "set orig ") hex_field Orig s.orig _ _ (λ v. refl) retry in
+    let first = lines_if (codes "set first ") hex_field First s.first _ _ (λ v. refl) orig in
     let remote = lines_if (codes "set remote ") hex_field Remote s.remote _ _ (λ v. refl) first in
     let local = lines_if (codes "set local ") hex_field Local s.local _ _ (λ v. refl) remote in
     let time = lines_if (codes "set time ") decimal Time s.time _ _ (λ v. refl) local in
     let random = lines_if (codes "set random ") random_text Random s.random _ _ (λ v. refl) time in
-    let grouped = regrouped (randoms s) (times s) (locals s) (remotes s) (firsts s) (addrs s) (tokens s) (secrets s) (initial_limits s) (handshake_limits s) (data_limits s) (failure_limits s) (idles s) (mtuds s) (gsos s) (map input_line inputs) in
+    let grouped = regrouped (randoms s) (times s) (locals s) (remotes s) (firsts s) (origs s) (retries s) (addrs s) (validateds s) (tokens s) (secrets s) (initial_limits s) (handshake_limits s) (data_limits s) (failure_limits s) (idles s) (mtuds s) (gsos s) (map input_line inputs) in
     ap (λ (ls : List (List ℕ)). side_line s.side ∷ ls) (grouped ∙ random)
 
 -- they are in order
@@ -213,7 +226,7 @@ chain_if set Within side (Some v) before items is within h chain = (within v h, 
 
 input_chain : (side : Side) (before : ℕ) (inputs : List Input) → AllWithin inputs → Chain side before (input_items inputs)
 input_chain side before [] h = tt
-input_chain side before (i ∷ inputs) h = (h.0, tt, input_chain side 16 inputs h.1)
+input_chain side before (i ∷ inputs) h = (h.0, tt, input_chain side 19 inputs h.1)
 
 -- a value that nothing bounds
 unbounded : {T : Type 0} → (o : Option T) → IfSome o (λ v. Unit {0})
@@ -222,25 +235,28 @@ unbounded (Some v) = tt
 
 pub script_chain : (s : Settings) (inputs : List Input) → AreSettings s → AllWithin inputs → Chain s.side 0 (items_of s inputs)
 script_chain s inputs h within =
-    let gso = chain_if Gso (λ v. Unit {0}) s.side s.gso 14 (input_items inputs) (λ v. refl) (λ v w. w) (unbounded s.gso) (input_chain s.side 15 inputs within) in
-    let mtud = chain_if Mtud (λ v. Unit {0}) s.side s.mtud 13 _ (λ v. refl) (λ v w. w) (unbounded s.mtud) gso in
-    let idle = chain_if Idle (λ n. n < 2 ^ 62) s.side s.idle 12 _ (λ v. refl) (λ v w. w) h.idle mtud in
-    let failures = chain_if LimitFailures (λ n. n < 2 ^ 64) s.side s.limit_failures 11 _ (λ v. refl) (λ v w. w) h.limit_failures idle in
-    let one_rtt = chain_if LimitData (λ n. n < 2 ^ 64) s.side s.limit_data 10 _ (λ v. refl) (λ v w. w) h.limit_data failures in
-    let handshake = chain_if LimitHandshake (λ n. n < 2 ^ 64) s.side s.limit_handshake 9 _ (λ v. refl) (λ v w. w) h.limit_handshake one_rtt in
-    let initial = chain_if LimitInitial (λ n. n < 2 ^ 64) s.side s.limit_initial 8 _ (λ v. refl) (λ v w. w) h.limit_initial handshake in
-    let secret = chain_if Secret IsSecret s.side s.secret 7 _ (λ v. refl) (λ v w. w) h.secret initial in
-    let token = chain_if Token (IsToken s.side) s.side s.token 6 _ (λ v. refl) (λ v w. w) h.token secret in
-    let addr = chain_if Addr IsAddress s.side s.addr 5 _ (λ v. refl) (λ v w. w) h.addr token in
-    let first = chain_if First (IsFirst s.side) s.side s.first 4 _ (λ v. refl) (λ v w. w) h.first addr in
+    let gso = chain_if Gso (λ v. Unit {0}) s.side s.gso 17 (input_items inputs) (λ v. refl) (λ v w. w) (unbounded s.gso) (input_chain s.side 18 inputs within) in
+    let mtud = chain_if Mtud (λ v. Unit {0}) s.side s.mtud 16 _ (λ v. refl) (λ v w. w) (unbounded s.mtud) gso in
+    let idle = chain_if Idle (λ n. n < 2 ^ 62) s.side s.idle 15 _ (λ v. refl) (λ v w. w) h.idle mtud in
+    let failures = chain_if LimitFailures (λ n. n < 2 ^ 64) s.side s.limit_failures 14 _ (λ v. refl) (λ v w. w) h.limit_failures idle in
+    let one_rtt = chain_if LimitData (λ n. n < 2 ^ 64) s.side s.limit_data 13 _ (λ v. refl) (λ v w. w) h.limit_data failures in
+    let handshake = chain_if LimitHandshake (λ n. n < 2 ^ 64) s.side s.limit_handshake 12 _ (λ v. refl) (λ v w. w) h.limit_handshake one_rtt in
+    let initial = chain_if LimitInitial (λ n. n < 2 ^ 64) s.side s.limit_initial 11 _ (λ v. refl) (λ v w. w) h.limit_initial handshake in
+    let secret = chain_if Secret IsSecret s.side s.secret 10 _ (λ v. refl) (λ v w. w) h.secret initial in
+    let token = chain_if Token (IsToken s.side) s.side s.token 9 _ (λ v. refl) (λ v w. w) h.token secret in
+    let validated = chain_if Validated (IsValidated s.side) s.side s.validated 8 _ (λ v. refl) (λ v w. w) h.validated token in
+    let addr = chain_if Addr IsAddress s.side s.addr 7 _ (λ v. refl) (λ v w. w) h.addr validated in
+    let retry = chain_if Retry (IsFirst s.side) s.side s.retry 6 _ (λ v. refl) (λ v w. w) h.retry addr in
+    let orig = chain_if Orig (IsFirst s.side) s.side s.orig 5 _ (λ v. refl) (λ v w. w) h.orig retry in
+    let first = chain_if First (IsFirst s.side) s.side s.first 4 _ (λ v. refl) (λ v w. w) h.first orig in
     let remote = chain_if Remote (IsRemote s.side) s.side s.remote 3 _ (λ v. refl) (λ v w. w) h.remote first in
     let local = chain_if Local IsId s.side s.local 2 _ (λ v. refl) (λ v w. w) h.local remote in
     let time = chain_if Time (λ n. n < 2 ^ 64) s.side s.time 1 _ (λ v. refl) (λ v w. w) h.time local in
     chain_if Random IsRandom s.side s.random 0 _ (λ v. refl) (λ v w. w) h.random time
 
 -- and tell the settings
-abbrev said : Side → Option RandomWords → Option ℕ → Option (List ℕ) → Option (List ℕ) → Option (List ℕ) → Option SocketAddr → Option (List ℕ) → Option (List ℕ) → Option ℕ → Option ℕ → Option ℕ → Option ℕ → Option ℕ → Option Bool → Option Bool → Settings
-said side random time local remote first addr token secret limit_initial limit_handshake limit_data limit_failures idle mtud gso =
+abbrev said : Side → Option RandomWords → Option ℕ → Option (List ℕ) → Option (List ℕ) → Option (List ℕ) → Option (List ℕ) → Option (List ℕ) → Option SocketAddr → Option Bool → Option (List ℕ) → Option (List ℕ) → Option ℕ → Option ℕ → Option ℕ → Option ℕ → Option ℕ → Option Bool → Option Bool → Settings
+said side random time local remote first orig retry addr validated token secret limit_initial limit_handshake limit_data limit_failures idle mtud gso =
     record {
       side = side;
       random = random;
@@ -248,7 +264,10 @@ said side random time local remote first addr token secret limit_initial limit_h
       local = local;
       remote = remote;
       first = first;
+      orig = orig;
+      retry = retry;
       addr = addr;
+      validated = validated;
       token = token;
       secret = secret;
       limit_initial = limit_initial;
@@ -271,21 +290,24 @@ said_inputs s (i ∷ inputs) = said_inputs s inputs
 
 pub script_settings : (s : Settings) (inputs : List Input) → settings_from (side_alone s.side) (items_of s inputs) ≡ s
 script_settings s inputs =
-    said_if Random (λ o. said s.side o None None None None None None None None None None None None None None) s.random _ (λ v. refl)
-    ∙ said_if Time (λ o. said s.side s.random o None None None None None None None None None None None None None) s.time _ (λ v. refl)
-    ∙ said_if Local (λ o. said s.side s.random s.time o None None None None None None None None None None None None) s.local _ (λ v. refl)
-    ∙ said_if Remote (λ o. said s.side s.random s.time s.local o None None None None None None None None None None None) s.remote _ (λ v. refl)
-    ∙ said_if First (λ o. said s.side s.random s.time s.local s.remote o None None None None None None None None None None) s.first _ (λ v. refl)
-    ∙ said_if Addr (λ o. said s.side s.random s.time s.local s.remote s.first o None None None None None None None None None) s.addr _ (λ v. refl)
-    ∙ said_if Token (λ o. said s.side s.random s.time s.local s.remote s.first s.addr o None None None None None None None None) s.token _ (λ v. refl)
-    ∙ said_if Secret (λ o. said s.side s.random s.time s.local s.remote s.first s.addr s.token o None None None None None None None) s.secret _ (λ v. refl)
-    ∙ said_if LimitInitial (λ o. said s.side s.random s.time s.local s.remote s.first s.addr s.token s.secret o None None None None None None) s.limit_initial _ (λ v. refl)
-    ∙ said_if LimitHandshake (λ o. said s.side s.random s.time s.local s.remote s.first s.addr s.token s.secret s.limit_initial o None None None None None) s.limit_handshake _ (λ v. refl)
-    ∙ said_if LimitData (λ o. said s.side s.random s.time s.local s.remote s.first s.addr s.token s.secret s.limit_initial s.limit_handshake o None None None None) s.limit_data _ (λ v. refl)
-    ∙ said_if LimitFailures (λ o. said s.side s.random s.time s.local s.remote s.first s.addr s.token s.secret s.limit_initial s.limit_handshake s.limit_data o None None None) s.limit_failures _ (λ v. refl)
-    ∙ said_if Idle (λ o. said s.side s.random s.time s.local s.remote s.first s.addr s.token s.secret s.limit_initial s.limit_handshake s.limit_data s.limit_failures o None None) s.idle _ (λ v. refl)
-    ∙ said_if Mtud (λ o. said s.side s.random s.time s.local s.remote s.first s.addr s.token s.secret s.limit_initial s.limit_handshake s.limit_data s.limit_failures s.idle o None) s.mtud _ (λ v. refl)
-    ∙ said_if Gso (λ o. said s.side s.random s.time s.local s.remote s.first s.addr s.token s.secret s.limit_initial s.limit_handshake s.limit_data s.limit_failures s.idle s.mtud o) s.gso (input_items inputs) (λ v. refl)
+    said_if Random (λ o. said s.side o None None None None None None None None None None None None None None None None None) s.random _ (λ v. refl)
+    ∙ said_if Time (λ o. said s.side s.random o None None None None None None None None None None None None None None None None) s.time _ (λ v. refl)
+    ∙ said_if Local (λ o. said s.side s.random s.time o None None None None None None None None None None None None None None None) s.local _ (λ v. refl)
+    ∙ said_if Remote (λ o. said s.side s.random s.time s.local o None None None None None None None None None None None None None None) s.remote _ (λ v. refl)
+    ∙ said_if First (λ o. said s.side s.random s.time s.local s.remote o None None None None None None None None None None None None None) s.first _ (λ v. refl)
+    ∙ said_if Orig (λ o. said s.side s.random s.time s.local s.remote s.first o None None None None None None None None None None None None) s.orig _ (λ v. refl)
+    ∙ said_if Retry (λ o. said s.side s.random s.time s.local s.remote s.first s.orig o None None None None None None None None None None None) s.retry _ (λ v. refl)
+    ∙ said_if Addr (λ o. said s.side s.random s.time s.local s.remote s.first s.orig s.retry o None None None None None None None None None None) s.addr _ (λ v. refl)
+    ∙ said_if Validated (λ o. said s.side s.random s.time s.local s.remote s.first s.orig s.retry s.addr o None None None None None None None None None) s.validated _ (λ v. refl)
+    ∙ said_if Token (λ o. said s.side s.random s.time s.local s.remote s.first s.orig s.retry s.addr s.validated o None None None None None None None None) s.token _ (λ v. refl)
+    ∙ said_if Secret (λ o. said s.side s.random s.time s.local s.remote s.first s.orig s.retry s.addr s.validated s.token o None None None None None None None) s.secret _ (λ v. refl)
+    ∙ said_if LimitInitial (λ o. said s.side s.random s.time s.local s.remote s.first s.orig s.retry s.addr s.validated s.token s.secret o None None None None None None) s.limit_initial _ (λ v. refl)
+    ∙ said_if LimitHandshake (λ o. said s.side s.random s.time s.local s.remote s.first s.orig s.retry s.addr s.validated s.token s.secret s.limit_initial o None None None None None) s.limit_handshake _ (λ v. refl)
+    ∙ said_if LimitData (λ o. said s.side s.random s.time s.local s.remote s.first s.orig s.retry s.addr s.validated s.token s.secret s.limit_initial s.limit_handshake o None None None None) s.limit_data _ (λ v. refl)
+    ∙ said_if LimitFailures (λ o. said s.side s.random s.time s.local s.remote s.first s.orig s.retry s.addr s.validated s.token s.secret s.limit_initial s.limit_handshake s.limit_data o None None None) s.limit_failures _ (λ v. refl)
+    ∙ said_if Idle (λ o. said s.side s.random s.time s.local s.remote s.first s.orig s.retry s.addr s.validated s.token s.secret s.limit_initial s.limit_handshake s.limit_data s.limit_failures o None None) s.idle _ (λ v. refl)
+    ∙ said_if Mtud (λ o. said s.side s.random s.time s.local s.remote s.first s.orig s.retry s.addr s.validated s.token s.secret s.limit_initial s.limit_handshake s.limit_data s.limit_failures s.idle o None) s.mtud _ (λ v. refl)
+    ∙ said_if Gso (λ o. said s.side s.random s.time s.local s.remote s.first s.orig s.retry s.addr s.validated s.token s.secret s.limit_initial s.limit_handshake s.limit_data s.limit_failures s.idle s.mtud o) s.gso (input_items inputs) (λ v. refl)
     ∙ said_inputs s inputs
 
 -- and the inputs
@@ -304,7 +326,10 @@ script_inputs s inputs =
     ∙ inputs_if Local s.local _
     ∙ inputs_if Remote s.remote _
     ∙ inputs_if First s.first _
+    ∙ inputs_if Orig s.orig _
+    ∙ inputs_if Retry s.retry _
     ∙ inputs_if Addr s.addr _
+    ∙ inputs_if Validated s.validated _
     ∙ inputs_if Token s.token _
     ∙ inputs_if Secret s.secret _
     ∙ inputs_if LimitInitial s.limit_initial _
@@ -326,16 +351,19 @@ IsOpen before s =
     × (before < 3 → s.local ≡ None)
     × (before < 4 → s.remote ≡ None)
     × (before < 5 → s.first ≡ None)
-    × (before < 6 → s.addr ≡ None)
-    × (before < 7 → s.token ≡ None)
-    × (before < 8 → s.secret ≡ None)
-    × (before < 9 → s.limit_initial ≡ None)
-    × (before < 10 → s.limit_handshake ≡ None)
-    × (before < 11 → s.limit_data ≡ None)
-    × (before < 12 → s.limit_failures ≡ None)
-    × (before < 13 → s.idle ≡ None)
-    × (before < 14 → s.mtud ≡ None)
-    × (before < 15 → s.gso ≡ None)
+    × (before < 6 → s.orig ≡ None)
+    × (before < 7 → s.retry ≡ None)
+    × (before < 8 → s.addr ≡ None)
+    × (before < 9 → s.validated ≡ None)
+    × (before < 10 → s.token ≡ None)
+    × (before < 11 → s.secret ≡ None)
+    × (before < 12 → s.limit_initial ≡ None)
+    × (before < 13 → s.limit_handshake ≡ None)
+    × (before < 14 → s.limit_data ≡ None)
+    × (before < 15 → s.limit_failures ≡ None)
+    × (before < 16 → s.idle ≡ None)
+    × (before < 17 → s.mtud ≡ None)
+    × (before < 18 → s.gso ≡ None)
 
 open_more : (before place : ℕ) (s : Settings) → before ≤ place → IsOpen before s → IsOpen place s
 open_more before place s le h = (
@@ -354,24 +382,30 @@ open_more before place s le h = (
   λ k. h.12 (omega arith),
   λ k. h.13 (omega arith),
   λ k. h.14 (omega arith),
+  λ k. h.15 (omega arith),
+  λ k. h.16 (omega arith),
+  λ k. h.17 (omega arith),
 )
 
 open_after : (before : ℕ) (s : Settings) (x : Setting) → before < setting_place x → IsOpen before s → IsOpen (setting_place x) (with_setting s x)
-open_after before s (Random v) k h = let l = open_more before 1 s (omega arith) h in (λ (q : 1 < 1). absurd (omega arith), l.1, l.2, l.3, l.4, l.5, l.6, l.7, l.8, l.9, l.10, l.11, l.12, l.13, l.14)
-open_after before s (Time v) k h = let l = open_more before 2 s (omega arith) h in (l.0, λ (q : 2 < 2). absurd (omega arith), l.2, l.3, l.4, l.5, l.6, l.7, l.8, l.9, l.10, l.11, l.12, l.13, l.14)
-open_after before s (Local v) k h = let l = open_more before 3 s (omega arith) h in (l.0, l.1, λ (q : 3 < 3). absurd (omega arith), l.3, l.4, l.5, l.6, l.7, l.8, l.9, l.10, l.11, l.12, l.13, l.14)
-open_after before s (Remote v) k h = let l = open_more before 4 s (omega arith) h in (l.0, l.1, l.2, λ (q : 4 < 4). absurd (omega arith), l.4, l.5, l.6, l.7, l.8, l.9, l.10, l.11, l.12, l.13, l.14)
-open_after before s (First v) k h = let l = open_more before 5 s (omega arith) h in (l.0, l.1, l.2, l.3, λ (q : 5 < 5). absurd (omega arith), l.5, l.6, l.7, l.8, l.9, l.10, l.11, l.12, l.13, l.14)
-open_after before s (Addr v) k h = let l = open_more before 6 s (omega arith) h in (l.0, l.1, l.2, l.3, l.4, λ (q : 6 < 6). absurd (omega arith), l.6, l.7, l.8, l.9, l.10, l.11, l.12, l.13, l.14)
-open_after before s (Token v) k h = let l = open_more before 7 s (omega arith) h in (l.0, l.1, l.2, l.3, l.4, l.5, λ (q : 7 < 7). absurd (omega arith), l.7, l.8, l.9, l.10, l.11, l.12, l.13, l.14)
-open_after before s (Secret v) k h = let l = open_more before 8 s (omega arith) h in (l.0, l.1, l.2, l.3, l.4, l.5, l.6, λ (q : 8 < 8). absurd (omega arith), l.8, l.9, l.10, l.11, l.12, l.13, l.14)
-open_after before s (LimitInitial v) k h = let l = open_more before 9 s (omega arith) h in (l.0, l.1, l.2, l.3, l.4, l.5, l.6, l.7, λ (q : 9 < 9). absurd (omega arith), l.9, l.10, l.11, l.12, l.13, l.14)
-open_after before s (LimitHandshake v) k h = let l = open_more before 10 s (omega arith) h in (l.0, l.1, l.2, l.3, l.4, l.5, l.6, l.7, l.8, λ (q : 10 < 10). absurd (omega arith), l.10, l.11, l.12, l.13, l.14)
-open_after before s (LimitData v) k h = let l = open_more before 11 s (omega arith) h in (l.0, l.1, l.2, l.3, l.4, l.5, l.6, l.7, l.8, l.9, λ (q : 11 < 11). absurd (omega arith), l.11, l.12, l.13, l.14)
-open_after before s (LimitFailures v) k h = let l = open_more before 12 s (omega arith) h in (l.0, l.1, l.2, l.3, l.4, l.5, l.6, l.7, l.8, l.9, l.10, λ (q : 12 < 12). absurd (omega arith), l.12, l.13, l.14)
-open_after before s (Idle v) k h = let l = open_more before 13 s (omega arith) h in (l.0, l.1, l.2, l.3, l.4, l.5, l.6, l.7, l.8, l.9, l.10, l.11, λ (q : 13 < 13). absurd (omega arith), l.13, l.14)
-open_after before s (Mtud v) k h = let l = open_more before 14 s (omega arith) h in (l.0, l.1, l.2, l.3, l.4, l.5, l.6, l.7, l.8, l.9, l.10, l.11, l.12, λ (q : 14 < 14). absurd (omega arith), l.14)
-open_after before s (Gso v) k h = let l = open_more before 15 s (omega arith) h in (l.0, l.1, l.2, l.3, l.4, l.5, l.6, l.7, l.8, l.9, l.10, l.11, l.12, l.13, λ (q : 15 < 15). absurd (omega arith))
+open_after before s (Random v) k h = let l = open_more before 1 s (omega arith) h in (λ (q : 1 < 1). absurd (omega arith), l.1, l.2, l.3, l.4, l.5, l.6, l.7, l.8, l.9, l.10, l.11, l.12, l.13, l.14, l.15, l.16, l.17)
+open_after before s (Time v) k h = let l = open_more before 2 s (omega arith) h in (l.0, λ (q : 2 < 2). absurd (omega arith), l.2, l.3, l.4, l.5, l.6, l.7, l.8, l.9, l.10, l.11, l.12, l.13, l.14, l.15, l.16, l.17)
+open_after before s (Local v) k h = let l = open_more before 3 s (omega arith) h in (l.0, l.1, λ (q : 3 < 3). absurd (omega arith), l.3, l.4, l.5, l.6, l.7, l.8, l.9, l.10, l.11, l.12, l.13, l.14, l.15, l.16, l.17)
+open_after before s (Remote v) k h = let l = open_more before 4 s (omega arith) h in (l.0, l.1, l.2, λ (q : 4 < 4). absurd (omega arith), l.4, l.5, l.6, l.7, l.8, l.9, l.10, l.11, l.12, l.13, l.14, l.15, l.16, l.17)
+open_after before s (First v) k h = let l = open_more before 5 s (omega arith) h in (l.0, l.1, l.2, l.3, λ (q : 5 < 5). absurd (omega arith), l.5, l.6, l.7, l.8, l.9, l.10, l.11, l.12, l.13, l.14, l.15, l.16, l.17)
+open_after before s (Orig v) k h = let l = open_more before 6 s (omega arith) h in (l.0, l.1, l.2, l.3, l.4, λ (q : 6 < 6). absurd (omega arith), l.6, l.7, l.8, l.9, l.10, l.11, l.12, l.13, l.14, l.15, l.16, l.17)
+open_after before s (Retry v) k h = let l = open_more before 7 s (omega arith) h in (l.0, l.1, l.2, l.3, l.4, l.5, λ (q : 7 < 7). absurd (omega arith), l.7, l.8, l.9, l.10, l.11, l.12, l.13, l.14, l.15, l.16, l.17)
+open_after before s (Addr v) k h = let l = open_more before 8 s (omega arith) h in (l.0, l.1, l.2, l.3, l.4, l.5, l.6, λ (q : 8 < 8). absurd (omega arith), l.8, l.9, l.10, l.11, l.12, l.13, l.14, l.15, l.16, l.17)
+open_after before s (Validated v) k h = let l = open_more before 9 s (omega arith) h in (l.0, l.1, l.2, l.3, l.4, l.5, l.6, l.7, λ (q : 9 < 9). absurd (omega arith), l.9, l.10, l.11, l.12, l.13, l.14, l.15, l.16, l.17)
+open_after before s (Token v) k h = let l = open_more before 10 s (omega arith) h in (l.0, l.1, l.2, l.3, l.4, l.5, l.6, l.7, l.8, λ (q : 10 < 10). absurd (omega arith), l.10, l.11, l.12, l.13, l.14, l.15, l.16, l.17)
+open_after before s (Secret v) k h = let l = open_more before 11 s (omega arith) h in (l.0, l.1, l.2, l.3, l.4, l.5, l.6, l.7, l.8, l.9, λ (q : 11 < 11). absurd (omega arith), l.11, l.12, l.13, l.14, l.15, l.16, l.17)
+open_after before s (LimitInitial v) k h = let l = open_more before 12 s (omega arith) h in (l.0, l.1, l.2, l.3, l.4, l.5, l.6, l.7, l.8, l.9, l.10, λ (q : 12 < 12). absurd (omega arith), l.12, l.13, l.14, l.15, l.16, l.17)
+open_after before s (LimitHandshake v) k h = let l = open_more before 13 s (omega arith) h in (l.0, l.1, l.2, l.3, l.4, l.5, l.6, l.7, l.8, l.9, l.10, l.11, λ (q : 13 < 13). absurd (omega arith), l.13, l.14, l.15, l.16, l.17)
+open_after before s (LimitData v) k h = let l = open_more before 14 s (omega arith) h in (l.0, l.1, l.2, l.3, l.4, l.5, l.6, l.7, l.8, l.9, l.10, l.11, l.12, λ (q : 14 < 14). absurd (omega arith), l.14, l.15, l.16, l.17)
+open_after before s (LimitFailures v) k h = let l = open_more before 15 s (omega arith) h in (l.0, l.1, l.2, l.3, l.4, l.5, l.6, l.7, l.8, l.9, l.10, l.11, l.12, l.13, λ (q : 15 < 15). absurd (omega arith), l.15, l.16, l.17)
+open_after before s (Idle v) k h = let l = open_more before 16 s (omega arith) h in (l.0, l.1, l.2, l.3, l.4, l.5, l.6, l.7, l.8, l.9, l.10, l.11, l.12, l.13, l.14, λ (q : 16 < 16). absurd (omega arith), l.16, l.17)
+open_after before s (Mtud v) k h = let l = open_more before 17 s (omega arith) h in (l.0, l.1, l.2, l.3, l.4, l.5, l.6, l.7, l.8, l.9, l.10, l.11, l.12, l.13, l.14, l.15, λ (q : 17 < 17). absurd (omega arith), l.17)
+open_after before s (Gso v) k h = let l = open_more before 18 s (omega arith) h in (l.0, l.1, l.2, l.3, l.4, l.5, l.6, l.7, l.8, l.9, l.10, l.11, l.12, l.13, l.14, l.15, l.16, λ (q : 18 < 18). absurd (omega arith))
 
 -- the set lines from each kind on
 abbrev from_mtud : Settings → List (List ℕ)
@@ -398,11 +432,20 @@ from_secret s = secrets s ++ from_initial s
 abbrev from_token : Settings → List (List ℕ)
 from_token s = tokens s ++ from_secret s
 
+abbrev from_validated : Settings → List (List ℕ)
+from_validated s = validateds s ++ from_token s
+
 abbrev from_addr : Settings → List (List ℕ)
-from_addr s = addrs s ++ from_token s
+from_addr s = addrs s ++ from_validated s
+
+abbrev from_retry : Settings → List (List ℕ)
+from_retry s = retries s ++ from_addr s
+
+abbrev from_orig : Settings → List (List ℕ)
+from_orig s = origs s ++ from_retry s
 
 abbrev from_first : Settings → List (List ℕ)
-from_first s = firsts s ++ from_addr s
+from_first s = firsts s ++ from_orig s
 
 abbrev from_remote : Settings → List (List ℕ)
 from_remote s = remotes s ++ from_first s
@@ -419,38 +462,47 @@ no_line words spell o e = ap (line_if words spell) e
 no_lines : (xs ys : List (List ℕ)) → xs ≡ [] → ys ≡ [] → xs ++ ys ≡ []
 no_lines xs ys e f = ap (λ (z : List (List ℕ)). z ++ ys) e ∙ f
 
-none_from_gso : (before : ℕ) (s : Settings) → before < 15 → IsOpen before s → gsos s ≡ []
-none_from_gso before s k h = no_line (codes "set gso ") flag_text s.gso (h.14 k)
+none_from_gso : (before : ℕ) (s : Settings) → before < 18 → IsOpen before s → gsos s ≡ []
+none_from_gso before s k h = no_line (codes "set gso ") flag_text s.gso (h.17 k)
 
-none_from_mtud : (before : ℕ) (s : Settings) → before < 14 → IsOpen before s → from_mtud s ≡ []
-none_from_mtud before s k h = no_lines (mtuds s) (gsos s) (no_line (codes "set mtud ") flag_text s.mtud (h.13 k)) (none_from_gso before s (omega arith) h)
+none_from_mtud : (before : ℕ) (s : Settings) → before < 17 → IsOpen before s → from_mtud s ≡ []
+none_from_mtud before s k h = no_lines (mtuds s) (gsos s) (no_line (codes "set mtud ") flag_text s.mtud (h.16 k)) (none_from_gso before s (omega arith) h)
 
-none_from_idle : (before : ℕ) (s : Settings) → before < 13 → IsOpen before s → from_idle s ≡ []
-none_from_idle before s k h = no_lines (idles s) (from_mtud s) (no_line (codes "set idle ") decimal s.idle (h.12 k)) (none_from_mtud before s (omega arith) h)
+none_from_idle : (before : ℕ) (s : Settings) → before < 16 → IsOpen before s → from_idle s ≡ []
+none_from_idle before s k h = no_lines (idles s) (from_mtud s) (no_line (codes "set idle ") decimal s.idle (h.15 k)) (none_from_mtud before s (omega arith) h)
 
-none_from_failures : (before : ℕ) (s : Settings) → before < 12 → IsOpen before s → from_failures s ≡ []
-none_from_failures before s k h = no_lines (failure_limits s) (from_idle s) (no_line (codes "set limit_failures ") decimal s.limit_failures (h.11 k)) (none_from_idle before s (omega arith) h)
+none_from_failures : (before : ℕ) (s : Settings) → before < 15 → IsOpen before s → from_failures s ≡ []
+none_from_failures before s k h = no_lines (failure_limits s) (from_idle s) (no_line (codes "set limit_failures ") decimal s.limit_failures (h.14 k)) (none_from_idle before s (omega arith) h)
 
-none_from_one_rtt : (before : ℕ) (s : Settings) → before < 11 → IsOpen before s → from_one_rtt s ≡ []
-none_from_one_rtt before s k h = no_lines (data_limits s) (from_failures s) (no_line (codes "set limit_data ") decimal s.limit_data (h.10 k)) (none_from_failures before s (omega arith) h)
+none_from_one_rtt : (before : ℕ) (s : Settings) → before < 14 → IsOpen before s → from_one_rtt s ≡ []
+none_from_one_rtt before s k h = no_lines (data_limits s) (from_failures s) (no_line (codes "set limit_data ") decimal s.limit_data (h.13 k)) (none_from_failures before s (omega arith) h)
 
-none_from_handshake : (before : ℕ) (s : Settings) → before < 10 → IsOpen before s → from_handshake s ≡ []
-none_from_handshake before s k h = no_lines (handshake_limits s) (from_one_rtt s) (no_line (codes "set limit_handshake ") decimal s.limit_handshake (h.9 k)) (none_from_one_rtt before s (omega arith) h)
+none_from_handshake : (before : ℕ) (s : Settings) → before < 13 → IsOpen before s → from_handshake s ≡ []
+none_from_handshake before s k h = no_lines (handshake_limits s) (from_one_rtt s) (no_line (codes "set limit_handshake ") decimal s.limit_handshake (h.12 k)) (none_from_one_rtt before s (omega arith) h)
 
-none_from_initial : (before : ℕ) (s : Settings) → before < 9 → IsOpen before s → from_initial s ≡ []
-none_from_initial before s k h = no_lines (initial_limits s) (from_handshake s) (no_line (codes "set limit_initial ") decimal s.limit_initial (h.8 k)) (none_from_handshake before s (omega arith) h)
+none_from_initial : (before : ℕ) (s : Settings) → before < 12 → IsOpen before s → from_initial s ≡ []
+none_from_initial before s k h = no_lines (initial_limits s) (from_handshake s) (no_line (codes "set limit_initial ") decimal s.limit_initial (h.11 k)) (none_from_handshake before s (omega arith) h)
 
-none_from_secret : (before : ℕ) (s : Settings) → before < 8 → IsOpen before s → from_secret s ≡ []
-none_from_secret before s k h = no_lines (secrets s) (from_initial s) (no_line (codes "set secret ") hex_field s.secret (h.7 k)) (none_from_initial before s (omega arith) h)
+none_from_secret : (before : ℕ) (s : Settings) → before < 11 → IsOpen before s → from_secret s ≡ []
+none_from_secret before s k h = no_lines (secrets s) (from_initial s) (no_line (codes "set secret ") hex_field s.secret (h.10 k)) (none_from_initial before s (omega arith) h)
 
-none_from_token : (before : ℕ) (s : Settings) → before < 7 → IsOpen before s → from_token s ≡ []
-none_from_token before s k h = no_lines (tokens s) (from_secret s) (no_line (codes "set token ") hex_field s.token (h.6 k)) (none_from_secret before s (omega arith) h)
+none_from_token : (before : ℕ) (s : Settings) → before < 10 → IsOpen before s → from_token s ≡ []
+none_from_token before s k h = no_lines (tokens s) (from_secret s) (no_line (codes "set token ") hex_field s.token (h.9 k)) (none_from_secret before s (omega arith) h)
 
-none_from_addr : (before : ℕ) (s : Settings) → before < 6 → IsOpen before s → from_addr s ≡ []
-none_from_addr before s k h = no_lines (addrs s) (from_token s) (no_line (codes "set addr ") address_text s.addr (h.5 k)) (none_from_token before s (omega arith) h)
+none_from_validated : (before : ℕ) (s : Settings) → before < 9 → IsOpen before s → from_validated s ≡ []
+none_from_validated before s k h = no_lines (validateds s) (from_token s) (no_line (codes "set validated ") flag_text s.validated (h.8 k)) (none_from_token before s (omega arith) h)
+
+none_from_addr : (before : ℕ) (s : Settings) → before < 8 → IsOpen before s → from_addr s ≡ []
+none_from_addr before s k h = no_lines (addrs s) (from_validated s) (no_line (codes "set addr ") address_text s.addr (h.7 k)) (none_from_validated before s (omega arith) h)
+
+none_from_retry : (before : ℕ) (s : Settings) → before < 7 → IsOpen before s → from_retry s ≡ []
+none_from_retry before s k h = no_lines (retries s) (from_addr s) (no_line (codes "set retry ") hex_field s.retry (h.6 k)) (none_from_addr before s (omega arith) h)
+
+none_from_orig : (before : ℕ) (s : Settings) → before < 6 → IsOpen before s → from_orig s ≡ []
+none_from_orig before s k h = no_lines (origs s) (from_retry s) (no_line (codes "set orig ") hex_field s.orig (h.5 k)) (none_from_retry before s (omega arith) h)
 
 none_from_first : (before : ℕ) (s : Settings) → before < 5 → IsOpen before s → from_first s ≡ []
-none_from_first before s k h = no_lines (firsts s) (from_addr s) (no_line (codes "set first ") hex_field s.first (h.4 k)) (none_from_addr before s (omega arith) h)
+none_from_first before s k h = no_lines (firsts s) (from_orig s) (no_line (codes "set first ") hex_field s.first (h.4 k)) (none_from_orig before s (omega arith) h)
 
 none_from_remote : (before : ℕ) (s : Settings) → before < 4 → IsOpen before s → from_remote s ≡ []
 none_from_remote before s k h = no_lines (remotes s) (from_first s) (no_line (codes "set remote ") hex_field s.remote (h.3 k)) (none_from_first before s (omega arith) h)
@@ -485,39 +537,54 @@ behind_remote s zs line e = behind_local s (locals s ++ zs) line (put_behind (lo
 behind_first : (s : Settings) (zs : List (List ℕ)) (line : List ℕ) → zs ≡ from_first s ++ line ∷ [] → side_line s.side ∷ (randoms s ++ (times s ++ (locals s ++ (remotes s ++ zs)))) ≡ set_lines s ++ line ∷ []
 behind_first s zs line e = behind_remote s (remotes s ++ zs) line (put_behind (remotes s) (from_first s) zs line e)
 
-behind_addr : (s : Settings) (zs : List (List ℕ)) (line : List ℕ) → zs ≡ from_addr s ++ line ∷ [] → side_line s.side ∷ (randoms s ++ (times s ++ (locals s ++ (remotes s ++ (firsts s ++ zs))))) ≡ set_lines s ++ line ∷ []
-behind_addr s zs line e = behind_first s (firsts s ++ zs) line (put_behind (firsts s) (from_addr s) zs line e)
+behind_orig : (s : Settings) (zs : List (List ℕ)) (line : List ℕ) → zs ≡ from_orig s ++ line ∷ [] → side_line s.side ∷ (randoms s ++ (times s ++ (locals s ++ (remotes s ++ (firsts s ++ zs))))) ≡ set_lines s ++ line ∷ []
+behind_orig s zs line e = behind_first s (firsts s ++ zs) line (put_behind (firsts s) (from_orig s) zs line e)
 
-behind_token : (s : Settings) (zs : List (List ℕ)) (line : List ℕ) → zs ≡ from_token s ++ line ∷ [] → side_line s.side ∷ (randoms s ++ (times s ++ (locals s ++ (remotes s ++ (firsts s ++ (addrs s ++ zs)))))) ≡ set_lines s ++ line ∷ []
-behind_token s zs line e = behind_addr s (addrs s ++ zs) line (put_behind (addrs s) (from_token s) zs line e)
+behind_retry : (s : Settings) (zs : List (List ℕ)) (line : List ℕ) → zs ≡ from_retry s ++ line ∷ [] → side_line s.side ∷ (randoms s ++ (times s ++ (locals s ++ (remotes s ++ (firsts s ++ (origs s ++ zs)))))) ≡ set_lines s ++ line ∷ []
+behind_retry s zs line e = behind_orig s (origs s ++ zs) line (put_behind (origs s) (from_retry s) zs line e)
 
-behind_secret : (s : Settings) (zs : List (List ℕ)) (line : List ℕ) → zs ≡ from_secret s ++ line ∷ [] → side_line s.side ∷ (randoms s ++ (times s ++ (locals s ++ (remotes s ++ (firsts s ++ (addrs s ++ (tokens s ++ zs))))))) ≡ set_lines s ++ line ∷ []
+behind_addr : (s : Settings) (zs : List (List ℕ)) (line : List ℕ) → zs ≡ from_addr s ++ line ∷ [] → side_line s.side ∷ (randoms s ++ (times s ++ (locals s ++ (remotes s ++ (firsts s ++ (origs s ++ (retries s ++ zs))))))) ≡ set_lines s ++ line ∷ []
+behind_addr s zs line e = behind_retry s (retries s ++ zs) line (put_behind (retries s) (from_addr s) zs line e)
+
+behind_validated : (s : Settings) (zs : List (List ℕ)) (line : List ℕ) → zs ≡ from_validated s ++ line ∷ [] → side_line s.side ∷ (randoms s ++ (times s ++ (locals s ++ (remotes s ++ (firsts s ++ (origs s ++ (retries s ++ (addrs s ++ zs)))))))) ≡ set_lines s ++ line ∷ []
+behind_validated s zs line e = behind_addr s (addrs s ++ zs) line (put_behind (addrs s) (from_validated s) zs line e)
+
+behind_token : (s : Settings) (zs : List (List ℕ)) (line : List ℕ) → zs ≡ from_token s ++ line ∷ [] → side_line s.side ∷ (randoms s ++ (times s ++ (locals s ++ (remotes s ++ (firsts s ++ (origs s ++ (retries s ++ (addrs s ++ (validateds s ++ zs))))))))) ≡ set_lines s ++ line ∷ []
+behind_token s zs line e = behind_validated s (validateds s ++ zs) line (put_behind (validateds s) (from_token s) zs line e)
+
+behind_secret : (s : Settings) (zs : List (List ℕ)) (line : List ℕ) → zs ≡ from_secret s ++ line ∷ [] → side_line s.side ∷ (randoms s ++ (times s ++ (locals s ++ (remotes s ++ (firsts s ++ (origs s ++ (retries s ++ (addrs s ++ (validateds s ++ (tokens s ++ zs)))))))))) ≡ set_lines s ++ line ∷ []
 behind_secret s zs line e = behind_token s (tokens s ++ zs) line (put_behind (tokens s) (from_secret s) zs line e)
 
-behind_initial : (s : Settings) (zs : List (List ℕ)) (line : List ℕ) → zs ≡ from_initial s ++ line ∷ [] → side_line s.side ∷ (randoms s ++ (times s ++ (locals s ++ (remotes s ++ (firsts s ++ (addrs s ++ (tokens s ++ (secrets s ++ zs)))))))) ≡ set_lines s ++ line ∷ []
+behind_initial : (s : Settings) (zs : List (List ℕ)) (line : List ℕ) → zs ≡ from_initial s ++ line ∷ [] → side_line s.side ∷ (randoms s ++ (times s ++ (locals s ++ (remotes s ++ (firsts s ++ (origs s ++ (retries s ++ (addrs s ++ (validateds s ++ (tokens s ++ (secrets s ++ zs))))))))))) ≡ set_lines s ++ line ∷ []
 behind_initial s zs line e = behind_secret s (secrets s ++ zs) line (put_behind (secrets s) (from_initial s) zs line e)
 
-behind_handshake : (s : Settings) (zs : List (List ℕ)) (line : List ℕ) → zs ≡ from_handshake s ++ line ∷ [] → side_line s.side ∷ (randoms s ++ (times s ++ (locals s ++ (remotes s ++ (firsts s ++ (addrs s ++ (tokens s ++ (secrets s ++ (initial_limits s ++ zs))))))))) ≡ set_lines s ++ line ∷ []
+behind_handshake : (s : Settings) (zs : List (List ℕ)) (line : List ℕ) → zs ≡ from_handshake s ++ line ∷ []
+    → side_line s.side ∷ (randoms s ++ (times s ++ (locals s ++ (remotes s ++ (firsts s ++ (origs s ++ (retries s ++ (addrs s ++ (validateds s ++ (tokens s ++ (secrets s ++ (initial_limits s ++ zs))))))))))))
+    ≡ set_lines s ++ line ∷ []
 behind_handshake s zs line e = behind_initial s (initial_limits s ++ zs) line (put_behind (initial_limits s) (from_handshake s) zs line e)
 
-behind_one_rtt : (s : Settings) (zs : List (List ℕ)) (line : List ℕ) → zs ≡ from_one_rtt s ++ line ∷ [] → side_line s.side ∷ (randoms s ++ (times s ++ (locals s ++ (remotes s ++ (firsts s ++ (addrs s ++ (tokens s ++ (secrets s ++ (initial_limits s ++ (handshake_limits s ++ zs)))))))))) ≡ set_lines s ++ line ∷ []
+behind_one_rtt : (s : Settings) (zs : List (List ℕ)) (line : List ℕ) → zs ≡ from_one_rtt s ++ line ∷ []
+    → side_line s.side ∷ (randoms s ++ (times s ++ (locals s ++ (remotes s ++ (firsts s ++ (origs s ++ (retries s ++ (addrs s ++ (validateds s ++ (tokens s ++ (secrets s ++ (initial_limits s ++ (handshake_limits s ++ zs)))))))))))))
+    ≡ set_lines s ++ line ∷ []
 behind_one_rtt s zs line e = behind_handshake s (handshake_limits s ++ zs) line (put_behind (handshake_limits s) (from_one_rtt s) zs line e)
 
-behind_failures : (s : Settings) (zs : List (List ℕ)) (line : List ℕ) → zs ≡ from_failures s ++ line ∷ [] → side_line s.side ∷ (randoms s ++ (times s ++ (locals s ++ (remotes s ++ (firsts s ++ (addrs s ++ (tokens s ++ (secrets s ++ (initial_limits s ++ (handshake_limits s ++ (data_limits s ++ zs))))))))))) ≡ set_lines s ++ line ∷ []
+behind_failures : (s : Settings) (zs : List (List ℕ)) (line : List ℕ) → zs ≡ from_failures s ++ line ∷ []
+    → side_line s.side ∷ (randoms s ++ (times s ++ (locals s ++ (remotes s ++ (firsts s ++ (origs s ++ (retries s ++ (addrs s ++ (validateds s ++ (tokens s ++ (secrets s ++ (initial_limits s ++ (handshake_limits s ++ (data_limits s ++ zs))))))))))))))
+    ≡ set_lines s ++ line ∷ []
 behind_failures s zs line e = behind_one_rtt s (data_limits s ++ zs) line (put_behind (data_limits s) (from_failures s) zs line e)
 
 behind_idle : (s : Settings) (zs : List (List ℕ)) (line : List ℕ) → zs ≡ from_idle s ++ line ∷ []
-    → side_line s.side ∷ (randoms s ++ (times s ++ (locals s ++ (remotes s ++ (firsts s ++ (addrs s ++ (tokens s ++ (secrets s ++ (initial_limits s ++ (handshake_limits s ++ (data_limits s ++ (failure_limits s ++ zs))))))))))))
+    → side_line s.side ∷ (randoms s ++ (times s ++ (locals s ++ (remotes s ++ (firsts s ++ (origs s ++ (retries s ++ (addrs s ++ (validateds s ++ (tokens s ++ (secrets s ++ (initial_limits s ++ (handshake_limits s ++ (data_limits s ++ (failure_limits s ++ zs)))))))))))))))
     ≡ set_lines s ++ line ∷ []
 behind_idle s zs line e = behind_failures s (failure_limits s ++ zs) line (put_behind (failure_limits s) (from_idle s) zs line e)
 
 behind_mtud : (s : Settings) (zs : List (List ℕ)) (line : List ℕ) → zs ≡ from_mtud s ++ line ∷ []
-    → side_line s.side ∷ (randoms s ++ (times s ++ (locals s ++ (remotes s ++ (firsts s ++ (addrs s ++ (tokens s ++ (secrets s ++ (initial_limits s ++ (handshake_limits s ++ (data_limits s ++ (failure_limits s ++ (idles s ++ zs)))))))))))))
+    → side_line s.side ∷ (randoms s ++ (times s ++ (locals s ++ (remotes s ++ (firsts s ++ (origs s ++ (retries s ++ (addrs s ++ (validateds s ++ (tokens s ++ (secrets s ++ (initial_limits s ++ (handshake_limits s ++ (data_limits s ++ (failure_limits s ++ (idles s ++ zs))))))))))))))))
     ≡ set_lines s ++ line ∷ []
 behind_mtud s zs line e = behind_idle s (idles s ++ zs) line (put_behind (idles s) (from_mtud s) zs line e)
 
 behind_gso : (s : Settings) (zs : List (List ℕ)) (line : List ℕ) → zs ≡ gsos s ++ line ∷ []
-    → side_line s.side ∷ (randoms s ++ (times s ++ (locals s ++ (remotes s ++ (firsts s ++ (addrs s ++ (tokens s ++ (secrets s ++ (initial_limits s ++ (handshake_limits s ++ (data_limits s ++ (failure_limits s ++ (idles s ++ (mtuds s ++ zs))))))))))))))
+    → side_line s.side ∷ (randoms s ++ (times s ++ (locals s ++ (remotes s ++ (firsts s ++ (origs s ++ (retries s ++ (addrs s ++ (validateds s ++ (tokens s ++ (secrets s ++ (initial_limits s ++ (handshake_limits s ++ (data_limits s ++ (failure_limits s ++ (idles s ++ (mtuds s ++ zs)))))))))))))))))
     ≡ set_lines s ++ line ∷ []
 behind_gso s zs line e = behind_mtud s (mtuds s ++ zs) line (put_behind (mtuds s) (gsos s) zs line e)
 
@@ -537,34 +604,43 @@ lines_after before s (Remote v) k h =
     let here = put_here (remotes s) (from_first s) (setting_line (Remote v)) (no_line (codes "set remote ") hex_field s.remote (h.3 k)) (none_from_first before s (omega arith) h) in
     behind_remote s (setting_line (Remote v) ∷ from_first s) (setting_line (Remote v)) here
 lines_after before s (First v) k h =
-    let here = put_here (firsts s) (from_addr s) (setting_line (First v)) (no_line (codes "set first ") hex_field s.first (h.4 k)) (none_from_addr before s (omega arith) h) in
-    behind_first s (setting_line (First v) ∷ from_addr s) (setting_line (First v)) here
+    let here = put_here (firsts s) (from_orig s) (setting_line (First v)) (no_line (codes "set first ") hex_field s.first (h.4 k)) (none_from_orig before s (omega arith) h) in
+    behind_first s (setting_line (First v) ∷ from_orig s) (setting_line (First v)) here
+lines_after before s (Orig v) k h =
+    let here = put_here (origs s) (from_retry s) (setting_line (Orig v)) (no_line (codes "set orig ") hex_field s.orig (h.5 k)) (none_from_retry before s (omega arith) h) in
+    behind_orig s (setting_line (Orig v) ∷ from_retry s) (setting_line (Orig v)) here
+lines_after before s (Retry v) k h =
+    let here = put_here (retries s) (from_addr s) (setting_line (Retry v)) (no_line (codes "set retry ") hex_field s.retry (h.6 k)) (none_from_addr before s (omega arith) h) in
+    behind_retry s (setting_line (Retry v) ∷ from_addr s) (setting_line (Retry v)) here
 lines_after before s (Addr v) k h =
-    let here = put_here (addrs s) (from_token s) (setting_line (Addr v)) (no_line (codes "set addr ") address_text s.addr (h.5 k)) (none_from_token before s (omega arith) h) in
-    behind_addr s (setting_line (Addr v) ∷ from_token s) (setting_line (Addr v)) here
+    let here = put_here (addrs s) (from_validated s) (setting_line (Addr v)) (no_line (codes "set addr ") address_text s.addr (h.7 k)) (none_from_validated before s (omega arith) h) in
+    behind_addr s (setting_line (Addr v) ∷ from_validated s) (setting_line (Addr v)) here
+lines_after before s (Validated v) k h =
+    let here = put_here (validateds s) (from_token s) (setting_line (Validated v)) (no_line (codes "set validated ") flag_text s.validated (h.8 k)) (none_from_token before s (omega arith) h) in
+    behind_validated s (setting_line (Validated v) ∷ from_token s) (setting_line (Validated v)) here
 lines_after before s (Token v) k h =
-    let here = put_here (tokens s) (from_secret s) (setting_line (Token v)) (no_line (codes "set token ") hex_field s.token (h.6 k)) (none_from_secret before s (omega arith) h) in
+    let here = put_here (tokens s) (from_secret s) (setting_line (Token v)) (no_line (codes "set token ") hex_field s.token (h.9 k)) (none_from_secret before s (omega arith) h) in
     behind_token s (setting_line (Token v) ∷ from_secret s) (setting_line (Token v)) here
 lines_after before s (Secret v) k h =
-    let here = put_here (secrets s) (from_initial s) (setting_line (Secret v)) (no_line (codes "set secret ") hex_field s.secret (h.7 k)) (none_from_initial before s (omega arith) h) in
+    let here = put_here (secrets s) (from_initial s) (setting_line (Secret v)) (no_line (codes "set secret ") hex_field s.secret (h.10 k)) (none_from_initial before s (omega arith) h) in
     behind_secret s (setting_line (Secret v) ∷ from_initial s) (setting_line (Secret v)) here
 lines_after before s (LimitInitial v) k h =
-    let here = put_here (initial_limits s) (from_handshake s) (setting_line (LimitInitial v)) (no_line (codes "set limit_initial ") decimal s.limit_initial (h.8 k)) (none_from_handshake before s (omega arith) h) in
+    let here = put_here (initial_limits s) (from_handshake s) (setting_line (LimitInitial v)) (no_line (codes "set limit_initial ") decimal s.limit_initial (h.11 k)) (none_from_handshake before s (omega arith) h) in
     behind_initial s (setting_line (LimitInitial v) ∷ from_handshake s) (setting_line (LimitInitial v)) here
 lines_after before s (LimitHandshake v) k h =
-    let here = put_here (handshake_limits s) (from_one_rtt s) (setting_line (LimitHandshake v)) (no_line (codes "set limit_handshake ") decimal s.limit_handshake (h.9 k)) (none_from_one_rtt before s (omega arith) h) in
+    let here = put_here (handshake_limits s) (from_one_rtt s) (setting_line (LimitHandshake v)) (no_line (codes "set limit_handshake ") decimal s.limit_handshake (h.12 k)) (none_from_one_rtt before s (omega arith) h) in
     behind_handshake s (setting_line (LimitHandshake v) ∷ from_one_rtt s) (setting_line (LimitHandshake v)) here
 lines_after before s (LimitData v) k h =
-    let here = put_here (data_limits s) (from_failures s) (setting_line (LimitData v)) (no_line (codes "set limit_data ") decimal s.limit_data (h.10 k)) (none_from_failures before s (omega arith) h) in
+    let here = put_here (data_limits s) (from_failures s) (setting_line (LimitData v)) (no_line (codes "set limit_data ") decimal s.limit_data (h.13 k)) (none_from_failures before s (omega arith) h) in
     behind_one_rtt s (setting_line (LimitData v) ∷ from_failures s) (setting_line (LimitData v)) here
 lines_after before s (LimitFailures v) k h =
-    let here = put_here (failure_limits s) (from_idle s) (setting_line (LimitFailures v)) (no_line (codes "set limit_failures ") decimal s.limit_failures (h.11 k)) (none_from_idle before s (omega arith) h) in
+    let here = put_here (failure_limits s) (from_idle s) (setting_line (LimitFailures v)) (no_line (codes "set limit_failures ") decimal s.limit_failures (h.14 k)) (none_from_idle before s (omega arith) h) in
     behind_failures s (setting_line (LimitFailures v) ∷ from_idle s) (setting_line (LimitFailures v)) here
 lines_after before s (Idle v) k h =
-    let here = put_here (idles s) (from_mtud s) (setting_line (Idle v)) (no_line (codes "set idle ") decimal s.idle (h.12 k)) (none_from_mtud before s (omega arith) h) in
+    let here = put_here (idles s) (from_mtud s) (setting_line (Idle v)) (no_line (codes "set idle ") decimal s.idle (h.15 k)) (none_from_mtud before s (omega arith) h) in
     behind_idle s (setting_line (Idle v) ∷ from_mtud s) (setting_line (Idle v)) here
 lines_after before s (Mtud v) k h =
-    let here = put_here (mtuds s) (gsos s) (setting_line (Mtud v)) (no_line (codes "set mtud ") flag_text s.mtud (h.13 k)) (none_from_gso before s (omega arith) h) in
+    let here = put_here (mtuds s) (gsos s) (setting_line (Mtud v)) (no_line (codes "set mtud ") flag_text s.mtud (h.16 k)) (none_from_gso before s (omega arith) h) in
     behind_mtud s (setting_line (Mtud v) ∷ gsos s) (setting_line (Mtud v)) here
 lines_after before s (Gso v) k h =
     let here : setting_line (Gso v) ∷ [] ≡ gsos s ++ setting_line (Gso v) ∷ [] = ap (λ (z : List (List ℕ)). z ++ setting_line (Gso v) ∷ []) (sym (none_from_gso before s k h)) in
@@ -577,7 +653,10 @@ side_after s (Time v) = refl
 side_after s (Local v) = refl
 side_after s (Remote v) = refl
 side_after s (First v) = refl
+side_after s (Orig v) = refl
+side_after s (Retry v) = refl
 side_after s (Addr v) = refl
+side_after s (Validated v) = refl
 side_after s (Token v) = refl
 side_after s (Secret v) = refl
 side_after s (LimitInitial v) = refl
@@ -589,26 +668,29 @@ side_after s (Mtud v) = refl
 side_after s (Gso v) = refl
 
 set_after : (s : Settings) (x : Setting) → AreSettings s → IsSetting s.side x → AreSettings (with_setting s x)
-set_after s (Random v) h w = record { random = w; time = h.time; local = h.local; remote = h.remote; first = h.first; addr = h.addr; token = h.token; secret = h.secret; limit_initial = h.limit_initial; limit_handshake = h.limit_handshake; limit_data = h.limit_data; limit_failures = h.limit_failures; idle = h.idle }
-set_after s (Time v) h w = record { random = h.random; time = w; local = h.local; remote = h.remote; first = h.first; addr = h.addr; token = h.token; secret = h.secret; limit_initial = h.limit_initial; limit_handshake = h.limit_handshake; limit_data = h.limit_data; limit_failures = h.limit_failures; idle = h.idle }
-set_after s (Local v) h w = record { random = h.random; time = h.time; local = w; remote = h.remote; first = h.first; addr = h.addr; token = h.token; secret = h.secret; limit_initial = h.limit_initial; limit_handshake = h.limit_handshake; limit_data = h.limit_data; limit_failures = h.limit_failures; idle = h.idle }
-set_after s (Remote v) h w = record { random = h.random; time = h.time; local = h.local; remote = w; first = h.first; addr = h.addr; token = h.token; secret = h.secret; limit_initial = h.limit_initial; limit_handshake = h.limit_handshake; limit_data = h.limit_data; limit_failures = h.limit_failures; idle = h.idle }
-set_after s (First v) h w = record { random = h.random; time = h.time; local = h.local; remote = h.remote; first = w; addr = h.addr; token = h.token; secret = h.secret; limit_initial = h.limit_initial; limit_handshake = h.limit_handshake; limit_data = h.limit_data; limit_failures = h.limit_failures; idle = h.idle }
-set_after s (Addr v) h w = record { random = h.random; time = h.time; local = h.local; remote = h.remote; first = h.first; addr = w; token = h.token; secret = h.secret; limit_initial = h.limit_initial; limit_handshake = h.limit_handshake; limit_data = h.limit_data; limit_failures = h.limit_failures; idle = h.idle }
-set_after s (Token v) h w = record { random = h.random; time = h.time; local = h.local; remote = h.remote; first = h.first; addr = h.addr; token = w; secret = h.secret; limit_initial = h.limit_initial; limit_handshake = h.limit_handshake; limit_data = h.limit_data; limit_failures = h.limit_failures; idle = h.idle }
-set_after s (Secret v) h w = record { random = h.random; time = h.time; local = h.local; remote = h.remote; first = h.first; addr = h.addr; token = h.token; secret = w; limit_initial = h.limit_initial; limit_handshake = h.limit_handshake; limit_data = h.limit_data; limit_failures = h.limit_failures; idle = h.idle }
-set_after s (LimitInitial v) h w = record { random = h.random; time = h.time; local = h.local; remote = h.remote; first = h.first; addr = h.addr; token = h.token; secret = h.secret; limit_initial = w; limit_handshake = h.limit_handshake; limit_data = h.limit_data; limit_failures = h.limit_failures; idle = h.idle }
-set_after s (LimitHandshake v) h w = record { random = h.random; time = h.time; local = h.local; remote = h.remote; first = h.first; addr = h.addr; token = h.token; secret = h.secret; limit_initial = h.limit_initial; limit_handshake = w; limit_data = h.limit_data; limit_failures = h.limit_failures; idle = h.idle }
-set_after s (LimitData v) h w = record { random = h.random; time = h.time; local = h.local; remote = h.remote; first = h.first; addr = h.addr; token = h.token; secret = h.secret; limit_initial = h.limit_initial; limit_handshake = h.limit_handshake; limit_data = w; limit_failures = h.limit_failures; idle = h.idle }
-set_after s (LimitFailures v) h w = record { random = h.random; time = h.time; local = h.local; remote = h.remote; first = h.first; addr = h.addr; token = h.token; secret = h.secret; limit_initial = h.limit_initial; limit_handshake = h.limit_handshake; limit_data = h.limit_data; limit_failures = w; idle = h.idle }
-set_after s (Idle v) h w = record { random = h.random; time = h.time; local = h.local; remote = h.remote; first = h.first; addr = h.addr; token = h.token; secret = h.secret; limit_initial = h.limit_initial; limit_handshake = h.limit_handshake; limit_data = h.limit_data; limit_failures = h.limit_failures; idle = w }
-set_after s (Mtud v) h w = record { random = h.random; time = h.time; local = h.local; remote = h.remote; first = h.first; addr = h.addr; token = h.token; secret = h.secret; limit_initial = h.limit_initial; limit_handshake = h.limit_handshake; limit_data = h.limit_data; limit_failures = h.limit_failures; idle = h.idle }
-set_after s (Gso v) h w = record { random = h.random; time = h.time; local = h.local; remote = h.remote; first = h.first; addr = h.addr; token = h.token; secret = h.secret; limit_initial = h.limit_initial; limit_handshake = h.limit_handshake; limit_data = h.limit_data; limit_failures = h.limit_failures; idle = h.idle }
+set_after s (Random v) h w = record { random = w; time = h.time; local = h.local; remote = h.remote; first = h.first; orig = h.orig; retry = h.retry; addr = h.addr; validated = h.validated; token = h.token; secret = h.secret; limit_initial = h.limit_initial; limit_handshake = h.limit_handshake; limit_data = h.limit_data; limit_failures = h.limit_failures; idle = h.idle }
+set_after s (Time v) h w = record { random = h.random; time = w; local = h.local; remote = h.remote; first = h.first; orig = h.orig; retry = h.retry; addr = h.addr; validated = h.validated; token = h.token; secret = h.secret; limit_initial = h.limit_initial; limit_handshake = h.limit_handshake; limit_data = h.limit_data; limit_failures = h.limit_failures; idle = h.idle }
+set_after s (Local v) h w = record { random = h.random; time = h.time; local = w; remote = h.remote; first = h.first; orig = h.orig; retry = h.retry; addr = h.addr; validated = h.validated; token = h.token; secret = h.secret; limit_initial = h.limit_initial; limit_handshake = h.limit_handshake; limit_data = h.limit_data; limit_failures = h.limit_failures; idle = h.idle }
+set_after s (Remote v) h w = record { random = h.random; time = h.time; local = h.local; remote = w; first = h.first; orig = h.orig; retry = h.retry; addr = h.addr; validated = h.validated; token = h.token; secret = h.secret; limit_initial = h.limit_initial; limit_handshake = h.limit_handshake; limit_data = h.limit_data; limit_failures = h.limit_failures; idle = h.idle }
+set_after s (First v) h w = record { random = h.random; time = h.time; local = h.local; remote = h.remote; first = w; orig = h.orig; retry = h.retry; addr = h.addr; validated = h.validated; token = h.token; secret = h.secret; limit_initial = h.limit_initial; limit_handshake = h.limit_handshake; limit_data = h.limit_data; limit_failures = h.limit_failures; idle = h.idle }
+set_after s (Orig v) h w = record { random = h.random; time = h.time; local = h.local; remote = h.remote; first = h.first; orig = w; retry = h.retry; addr = h.addr; validated = h.validated; token = h.token; secret = h.secret; limit_initial = h.limit_initial; limit_handshake = h.limit_handshake; limit_data = h.limit_data; limit_failures = h.limit_failures; idle = h.idle }
+set_after s (Retry v) h w = record { random = h.random; time = h.time; local = h.local; remote = h.remote; first = h.first; orig = h.orig; retry = w; addr = h.addr; validated = h.validated; token = h.token; secret = h.secret; limit_initial = h.limit_initial; limit_handshake = h.limit_handshake; limit_data = h.limit_data; limit_failures = h.limit_failures; idle = h.idle }
+set_after s (Addr v) h w = record { random = h.random; time = h.time; local = h.local; remote = h.remote; first = h.first; orig = h.orig; retry = h.retry; addr = w; validated = h.validated; token = h.token; secret = h.secret; limit_initial = h.limit_initial; limit_handshake = h.limit_handshake; limit_data = h.limit_data; limit_failures = h.limit_failures; idle = h.idle }
+set_after s (Validated v) h w = record { random = h.random; time = h.time; local = h.local; remote = h.remote; first = h.first; orig = h.orig; retry = h.retry; addr = h.addr; validated = w; token = h.token; secret = h.secret; limit_initial = h.limit_initial; limit_handshake = h.limit_handshake; limit_data = h.limit_data; limit_failures = h.limit_failures; idle = h.idle }
+set_after s (Token v) h w = record { random = h.random; time = h.time; local = h.local; remote = h.remote; first = h.first; orig = h.orig; retry = h.retry; addr = h.addr; validated = h.validated; token = w; secret = h.secret; limit_initial = h.limit_initial; limit_handshake = h.limit_handshake; limit_data = h.limit_data; limit_failures = h.limit_failures; idle = h.idle }
+set_after s (Secret v) h w = record { random = h.random; time = h.time; local = h.local; remote = h.remote; first = h.first; orig = h.orig; retry = h.retry; addr = h.addr; validated = h.validated; token = h.token; secret = w; limit_initial = h.limit_initial; limit_handshake = h.limit_handshake; limit_data = h.limit_data; limit_failures = h.limit_failures; idle = h.idle }
+set_after s (LimitInitial v) h w = record { random = h.random; time = h.time; local = h.local; remote = h.remote; first = h.first; orig = h.orig; retry = h.retry; addr = h.addr; validated = h.validated; token = h.token; secret = h.secret; limit_initial = w; limit_handshake = h.limit_handshake; limit_data = h.limit_data; limit_failures = h.limit_failures; idle = h.idle }
+set_after s (LimitHandshake v) h w = record { random = h.random; time = h.time; local = h.local; remote = h.remote; first = h.first; orig = h.orig; retry = h.retry; addr = h.addr; validated = h.validated; token = h.token; secret = h.secret; limit_initial = h.limit_initial; limit_handshake = w; limit_data = h.limit_data; limit_failures = h.limit_failures; idle = h.idle }
+set_after s (LimitData v) h w = record { random = h.random; time = h.time; local = h.local; remote = h.remote; first = h.first; orig = h.orig; retry = h.retry; addr = h.addr; validated = h.validated; token = h.token; secret = h.secret; limit_initial = h.limit_initial; limit_handshake = h.limit_handshake; limit_data = w; limit_failures = h.limit_failures; idle = h.idle }
+set_after s (LimitFailures v) h w = record { random = h.random; time = h.time; local = h.local; remote = h.remote; first = h.first; orig = h.orig; retry = h.retry; addr = h.addr; validated = h.validated; token = h.token; secret = h.secret; limit_initial = h.limit_initial; limit_handshake = h.limit_handshake; limit_data = h.limit_data; limit_failures = w; idle = h.idle }
+set_after s (Idle v) h w = record { random = h.random; time = h.time; local = h.local; remote = h.remote; first = h.first; orig = h.orig; retry = h.retry; addr = h.addr; validated = h.validated; token = h.token; secret = h.secret; limit_initial = h.limit_initial; limit_handshake = h.limit_handshake; limit_data = h.limit_data; limit_failures = h.limit_failures; idle = w }
+set_after s (Mtud v) h w = record { random = h.random; time = h.time; local = h.local; remote = h.remote; first = h.first; orig = h.orig; retry = h.retry; addr = h.addr; validated = h.validated; token = h.token; secret = h.secret; limit_initial = h.limit_initial; limit_handshake = h.limit_handshake; limit_data = h.limit_data; limit_failures = h.limit_failures; idle = h.idle }
+set_after s (Gso v) h w = record { random = h.random; time = h.time; local = h.local; remote = h.remote; first = h.first; orig = h.orig; retry = h.retry; addr = h.addr; validated = h.validated; token = h.token; secret = h.secret; limit_initial = h.limit_initial; limit_handshake = h.limit_handshake; limit_data = h.limit_data; limit_failures = h.limit_failures; idle = h.idle }
 
 set_from : (side : Side) (before : ℕ) (s : Settings) (items : List Item) → s.side ≡ side → Chain side before items → AreSettings s → AreSettings (settings_from s items)
 set_from side before s [] e chain h = h
 set_from side before s (It.Set x ∷ items) e chain h = set_from side (setting_place x) (with_setting s x) items (side_after s x ∙ e) chain.2 (set_after s x h (subst (λ (d : Side). IsSetting d x) (sym e) chain.0))
-set_from side before s (It.Input i ∷ items) e chain h = set_from side 16 s items e chain.2 h
+set_from side before s (It.Input i ∷ items) e chain h = set_from side 19 s items e chain.2 h
 
 all_push : (is : List Input) (j : Input) → AllWithin is → IsWithin j → AllWithin (is ++ j ∷ [])
 all_push [] j h within = (within, tt)
@@ -617,15 +699,18 @@ all_push (i ∷ is) j h within = (h.0, all_push is j h.1 within)
 within_from : (side : Side) (before : ℕ) (inputs : List Input) (items : List Item) → Chain side before items → AllWithin inputs → AllWithin (inputs_from inputs items)
 within_from side before inputs [] chain h = h
 within_from side before inputs (It.Set x ∷ items) chain h = within_from side (setting_place x) inputs items chain.2 h
-within_from side before inputs (It.Input i ∷ items) chain h = within_from side 16 (inputs ++ i ∷ []) items chain.2 (all_push inputs i h chain.0)
+within_from side before inputs (It.Input i ∷ items) chain h = within_from side 19 (inputs ++ i ∷ []) items chain.2 (all_push inputs i h chain.0)
 
-place_small : (x : Setting) → setting_place x < 16
+place_small : (x : Setting) → setting_place x < 19
 place_small (Random v) = omega arith
 place_small (Time v) = omega arith
 place_small (Local v) = omega arith
 place_small (Remote v) = omega arith
 place_small (First v) = omega arith
+place_small (Orig v) = omega arith
+place_small (Retry v) = omega arith
 place_small (Addr v) = omega arith
+place_small (Validated v) = omega arith
 place_small (Token v) = omega arith
 place_small (Secret v) = omega arith
 place_small (LimitInitial v) = omega arith
@@ -639,7 +724,7 @@ place_small (Gso v) = omega arith
 set_line_moved : (xs ys zs more : List (List ℕ)) (line : List ℕ) → zs ≡ [] → ys ≡ xs ++ line ∷ [] → (xs ++ zs) ++ line ∷ more ≡ (ys ++ zs) ++ more
 set_line_moved xs ys zs more line e f = rw (e, f) (simp (append-nil, append_assoc))
 
-lines_from : (side : Side) (before : ℕ) (s : Settings) (inputs : List Input) (items : List Item) → Chain side before items → IsOpen before s → (before < 16 → inputs ≡ [])
+lines_from : (side : Side) (before : ℕ) (s : Settings) (inputs : List Input) (items : List Item) → Chain side before items → IsOpen before s → (before < 19 → inputs ≡ [])
     → (set_lines s ++ map input_line inputs) ++ map item_line items ≡ set_lines (settings_from s items) ++ map input_line (inputs_from inputs items)
 lines_from side before s inputs [] chain h none = append-nil (set_lines s ++ map input_line inputs)
 lines_from side before s inputs (It.Set x ∷ items) chain h none =
@@ -649,34 +734,37 @@ lines_from side before s inputs (It.Set x ∷ items) chain h none =
     ∙ lines_from side (setting_place x) (with_setting s x) inputs items chain.2 (open_after before s x follows h) (λ k. empty)
 lines_from side before s inputs (It.Input i ∷ items) chain h none =
     let moved : (set_lines s ++ map input_line inputs) ++ input_line i ∷ map item_line items ≡ (set_lines s ++ map input_line (inputs ++ i ∷ [])) ++ map item_line items = rw (map-append input_line inputs (i ∷ [])) (simp append_assoc) in
-    moved ∙ lines_from side 16 s (inputs ++ i ∷ []) items chain.2 (open_at_end s) (λ (k : 16 < 16). absurd (omega arith))
+    moved ∙ lines_from side 19 s (inputs ++ i ∷ []) items chain.2 (open_at_end s) (λ (k : 19 < 19). absurd (omega arith))
   where
-    open_at_end : (s : Settings) → IsOpen 16 s
+    open_at_end : (s : Settings) → IsOpen 19 s
     open_at_end s = (
-      λ (k : 16 < 1). absurd (omega arith),
-      λ (k : 16 < 2). absurd (omega arith),
-      λ (k : 16 < 3). absurd (omega arith),
-      λ (k : 16 < 4). absurd (omega arith),
-      λ (k : 16 < 5). absurd (omega arith),
-      λ (k : 16 < 6). absurd (omega arith),
-      λ (k : 16 < 7). absurd (omega arith),
-      λ (k : 16 < 8). absurd (omega arith),
-      λ (k : 16 < 9). absurd (omega arith),
-      λ (k : 16 < 10). absurd (omega arith),
-      λ (k : 16 < 11). absurd (omega arith),
-      λ (k : 16 < 12). absurd (omega arith),
-      λ (k : 16 < 13). absurd (omega arith),
-      λ (k : 16 < 14). absurd (omega arith),
-      λ (k : 16 < 15). absurd (omega arith),
+      λ (k : 19 < 1). absurd (omega arith),
+      λ (k : 19 < 2). absurd (omega arith),
+      λ (k : 19 < 3). absurd (omega arith),
+      λ (k : 19 < 4). absurd (omega arith),
+      λ (k : 19 < 5). absurd (omega arith),
+      λ (k : 19 < 6). absurd (omega arith),
+      λ (k : 19 < 7). absurd (omega arith),
+      λ (k : 19 < 8). absurd (omega arith),
+      λ (k : 19 < 9). absurd (omega arith),
+      λ (k : 19 < 10). absurd (omega arith),
+      λ (k : 19 < 11). absurd (omega arith),
+      λ (k : 19 < 12). absurd (omega arith),
+      λ (k : 19 < 13). absurd (omega arith),
+      λ (k : 19 < 14). absurd (omega arith),
+      λ (k : 19 < 15). absurd (omega arith),
+      λ (k : 19 < 16). absurd (omega arith),
+      λ (k : 19 < 17). absurd (omega arith),
+      λ (k : 19 < 18). absurd (omega arith),
     )
 
 -- items behind the line of a side: they are the lines of settings and inputs
 pub items_lines : (side : Side) (items : List Item) → Chain side 0 items → side_line side ∷ map item_line items ≡ set_lines (settings_from (side_alone side) items) ++ map input_line (inputs_from [] items)
 unfolding set_lines
-items_lines side items chain = lines_from side 0 (side_alone side) [] items chain (λ k. refl, λ k. refl, λ k. refl, λ k. refl, λ k. refl, λ k. refl, λ k. refl, λ k. refl, λ k. refl, λ k. refl, λ k. refl, λ k. refl, λ k. refl, λ k. refl, λ k. refl) (λ k. refl)
+items_lines side items chain = lines_from side 0 (side_alone side) [] items chain (λ k. refl, λ k. refl, λ k. refl, λ k. refl, λ k. refl, λ k. refl, λ k. refl, λ k. refl, λ k. refl, λ k. refl, λ k. refl, λ k. refl, λ k. refl, λ k. refl, λ k. refl, λ k. refl, λ k. refl, λ k. refl) (λ k. refl)
 
 pub items_settings : (side : Side) (items : List Item) → Chain side 0 items → AreSettings (settings_from (side_alone side) items)
-items_settings side items chain = set_from side 0 (side_alone side) items refl chain (record { random = tt; time = tt; local = tt; remote = tt; first = tt; addr = tt; token = tt; secret = tt; limit_initial = tt; limit_handshake = tt; limit_data = tt; limit_failures = tt; idle = tt })
+items_settings side items chain = set_from side 0 (side_alone side) items refl chain (record { random = tt; time = tt; local = tt; remote = tt; first = tt; orig = tt; retry = tt; addr = tt; validated = tt; token = tt; secret = tt; limit_initial = tt; limit_handshake = tt; limit_data = tt; limit_failures = tt; idle = tt })
 
 pub items_within : (side : Side) (items : List Item) → Chain side 0 items → AllWithin (inputs_from [] items)
 items_within side items chain = within_from side 0 [] items chain tt

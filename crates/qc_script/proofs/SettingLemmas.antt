@@ -1,5 +1,5 @@
 -- The line of a setting: its field, and that no other setting has it.
-use Rattle.std.proofs.Common.{◌≡◌, ◌≢◌, ℕ, ◌+◌, ◌^◌, ◌<◌, ◌≤◌, List, [], ◌∷◌, ◌++◌, length, get_or, Bool, true, false, Option, Some, None, ◌==◌, refl, sym, ◌∙◌, ap, arith, codes}
+use Rattle.std.proofs.Common.{◌≡◌, ◌≢◌, ℕ, ◌+◌, ◌*◌, ◌^◌, ◌<◌, ◌≤◌, List, [], ◌∷◌, ◌++◌, length, get_or, Bool, true, false, Option, Some, None, ◌==◌, refl, sym, ◌∙◌, ap, arith, codes}
 use Rattle.std.proofs.lemmas.List.{append_assoc, append_cancel_left, append_cancel_right}
 use Rattle.std.specs.Fmt.{decimal}
 use Rattle.std.proofs.lemmas.Fmt.{decimal_injective}
@@ -13,9 +13,9 @@ use Rattle.qc_state.specs.declared.input.Input.{Input}
 use Rattle.qc_script.specs.declared.settings.RandomWords.{RandomWords}
 use Rattle.qc_script.specs.declared.settings.RandomWords.TheVariants.{Zeros, Seed}
 use Rattle.qc_script.specs.declared.settings.Setting.{Setting}
-use Rattle.qc_script.specs.declared.settings.Setting.TheVariants.{Random, Time, Local, Remote, First, Addr, Token, Secret, LimitInitial, LimitHandshake, LimitData, LimitFailures, Idle, Mtud, Gso}
+use Rattle.qc_script.specs.declared.settings.Setting.TheVariants.{Random, Time, Local, Remote, First, Orig, Retry, Addr, Validated, Token, Secret, LimitInitial, LimitHandshake, LimitData, LimitFailures, Idle, Mtud, Gso}
 use Rattle.qc_script.specs.Fields.{hex_field, address_text, flag_text, IsAddress}
-use Rattle.qc_script.specs.Script.{random_text, side_line, input_line, IsRandom, IsSeed, IsId, IsRemote, IsFirst, IsToken, IsSecret}
+use Rattle.qc_script.specs.Script.{random_text, side_line, input_line, IsRandom, IsSeed, IsId, IsRemote, IsFirst, IsValidated, IsToken, IsSecret}
 use Rattle.qc_script.specs.Items.{setting_line, IsSetting, IsNextSetting, IsSettingRead, IsOfTransport, IsTransportRead}
 use Rattle.qc_script.proofs.FieldLemmas.{hex_field_injective, address_injective}
 use Rattle.qc_script.proofs.LineLemmas.{no_set}
@@ -35,33 +35,39 @@ field_same words field f e = append_cancel_left words field f (words_and_field w
 fields_same_behind : (words a b : List ℕ) → words ++ (a ++ 10 ∷ []) ≡ words ++ (b ++ 10 ∷ []) → a ≡ b
 fields_same_behind words a b e = field_same words a b (append_assoc words a (10 ∷ []) ∙ e)
 
+-- the letters behind `set `, of which the first and the third count twice
+abbrev letters : List ℕ → ℕ
+letters line = (2 * get_or line 4 0 + get_or line 5 0) + 2 * get_or line 6 0
+
 -- the letter behind `set limit_`
 abbrev limit_letter : (is_limit : Bool) → List ℕ → ℕ
 limit_letter true line = get_or line 10 0
 limit_letter false line = 0
 
--- By this number the lines of two settings are told apart: the sum of the two letters behind `set `, and for a limit that of the
--- letter behind `set limit_` too.
+-- By this number the lines of two settings are told apart: the sum of these letters, and for a limit that of the letter behind `set limit_` too.
 abbrev mark : List ℕ → ℕ
-mark line = (get_or line 4 0 + get_or line 5 0) + limit_letter (get_or line 4 0 + get_or line 5 0 == 213) line
+mark line = letters line + limit_letter (letters line == 539) line
 
 -- the mark of a setting's line
 abbrev kind : Setting → ℕ
-kind (Random words) = 211
-kind (Time now) = 221
-kind (Local id) = 219
-kind (Remote id) = 215
-kind (First id) = 207
-kind (Addr address) = 197
-kind (Token bytes) = 227
-kind (Secret bytes) = 216
-kind (LimitInitial packets) = 318
-kind (LimitHandshake packets) = 317
-kind (LimitData packets) = 313
-kind (LimitFailures packets) = 315
-kind (Idle limit) = 205
-kind (Mtud allowed) = 225
-kind (Gso allowed) = 218
+kind (Random words) = 545
+kind (Time now) = 555
+kind (Local id) = 525
+kind (Remote id) = 547
+kind (First id) = 537
+kind (Orig id) = 546
+kind (Retry id) = 561
+kind (Addr address) = 494
+kind (Validated validated) = 549
+kind (Token bytes) = 557
+kind (Secret bytes) = 529
+kind (LimitInitial packets) = 644
+kind (LimitHandshake packets) = 643
+kind (LimitData packets) = 639
+kind (LimitFailures packets) = 641
+kind (Idle limit) = 526
+kind (Mtud allowed) = 568
+kind (Gso allowed) = 543
 
 kind_at : (x : Setting) → mark (setting_line x) ≡ kind x
 unfolding setting_line
@@ -70,7 +76,10 @@ kind_at (Time now) = refl
 kind_at (Local id) = refl
 kind_at (Remote id) = refl
 kind_at (First id) = refl
+kind_at (Orig id) = refl
+kind_at (Retry id) = refl
 kind_at (Addr address) = refl
+kind_at (Validated validated) = refl
 kind_at (Token bytes) = refl
 kind_at (Secret bytes) = refl
 kind_at (LimitInitial packets) = refl
@@ -106,9 +115,21 @@ pub first_next : (field id : List ℕ) (side : Side) → field ≡ hex_field id 
 unfolding setting_line
 first_next field id side e h = record { spelled = spelled_on (codes "set first ") field (hex_field id) e; within = h }
 
+pub orig_next : (field id : List ℕ) (side : Side) → field ≡ hex_field id → IsFirst side id → IsNextSetting side (codes "set orig " ++ field) (Orig id)
+unfolding setting_line
+orig_next field id side e h = record { spelled = spelled_on (codes "set orig ") field (hex_field id) e; within = h }
+
+pub retry_next : (field id : List ℕ) (side : Side) → field ≡ hex_field id → IsFirst side id → IsNextSetting side (codes "set retry " ++ field) (Retry id)
+unfolding setting_line
+retry_next field id side e h = record { spelled = spelled_on (codes "set retry ") field (hex_field id) e; within = h }
+
 pub addr_next : (field : List ℕ) (address : SocketAddr) → field ≡ address_text address → IsAddress address → (side : Side) → IsNextSetting side (codes "set addr " ++ field) (Addr address)
 unfolding setting_line
 addr_next field address e h side = record { spelled = spelled_on (codes "set addr ") field (address_text address) e; within = h }
+
+pub validated_next : (field : List ℕ) (validated : Bool) (side : Side) → field ≡ flag_text validated → IsValidated side validated → IsNextSetting side (codes "set validated " ++ field) (Validated validated)
+unfolding setting_line
+validated_next field validated side e h = record { spelled = spelled_on (codes "set validated ") field (flag_text validated) e; within = h }
 
 pub token_next : (field bytes : List ℕ) (side : Side) → field ≡ hex_field bytes → IsToken side bytes → IsNextSetting side (codes "set token " ++ field) (Token bytes)
 unfolding setting_line
@@ -150,77 +171,92 @@ gso_next field allowed e side = record { spelled = spelled_on (codes "set gso ")
 pub no_random : (field : List ℕ) → ((words : RandomWords) → IsRandom words → field ≢ random_text words) → (side : Side) (x : Setting) → IsNextSetting side (codes "set random " ++ field) x → ⊥
 unfolding setting_line
 no_random field none side (Random words) h = none words h.within (field_same (codes "set random ") field (random_text words) h.spelled)
-no_random field none side x h = let e : 211 ≡ kind x = kind_of_text side (codes "set random " ++ field) x h in omega (arith, e)
+no_random field none side x h = let e : 545 ≡ kind x = kind_of_text side (codes "set random " ++ field) x h in omega (arith, e)
 
 pub no_time : (field : List ℕ) → ((n : ℕ) → n < 2 ^ 64 → field ≢ decimal n) → (side : Side) (x : Setting) → IsNextSetting side (codes "set time " ++ field) x → ⊥
 unfolding setting_line
 no_time field none side (Time n) h = none n h.within (field_same (codes "set time ") field (decimal n) h.spelled)
-no_time field none side x h = let e : 221 ≡ kind x = kind_of_text side (codes "set time " ++ field) x h in omega (arith, e)
+no_time field none side x h = let e : 555 ≡ kind x = kind_of_text side (codes "set time " ++ field) x h in omega (arith, e)
 
 pub no_local : (field : List ℕ) → ((id : List ℕ) → IsId id → field ≢ hex_field id) → (side : Side) (x : Setting) → IsNextSetting side (codes "set local " ++ field) x → ⊥
 unfolding setting_line
 no_local field none side (Local id) h = none id h.within (field_same (codes "set local ") field (hex_field id) h.spelled)
-no_local field none side x h = let e : 219 ≡ kind x = kind_of_text side (codes "set local " ++ field) x h in omega (arith, e)
+no_local field none side x h = let e : 525 ≡ kind x = kind_of_text side (codes "set local " ++ field) x h in omega (arith, e)
 
 pub no_remote : (field : List ℕ) (side : Side) → ((id : List ℕ) → IsRemote side id → field ≢ hex_field id) → (x : Setting) → IsNextSetting side (codes "set remote " ++ field) x → ⊥
 unfolding setting_line
 no_remote field side none (Remote id) h = none id h.within (field_same (codes "set remote ") field (hex_field id) h.spelled)
-no_remote field side none x h = let e : 215 ≡ kind x = kind_of_text side (codes "set remote " ++ field) x h in omega (arith, e)
+no_remote field side none x h = let e : 547 ≡ kind x = kind_of_text side (codes "set remote " ++ field) x h in omega (arith, e)
 
 pub no_first : (field : List ℕ) (side : Side) → ((id : List ℕ) → IsFirst side id → field ≢ hex_field id) → (x : Setting) → IsNextSetting side (codes "set first " ++ field) x → ⊥
 unfolding setting_line
 no_first field side none (First id) h = none id h.within (field_same (codes "set first ") field (hex_field id) h.spelled)
-no_first field side none x h = let e : 207 ≡ kind x = kind_of_text side (codes "set first " ++ field) x h in omega (arith, e)
+no_first field side none x h = let e : 537 ≡ kind x = kind_of_text side (codes "set first " ++ field) x h in omega (arith, e)
+
+pub no_orig : (field : List ℕ) (side : Side) → ((id : List ℕ) → IsFirst side id → field ≢ hex_field id) → (x : Setting) → IsNextSetting side (codes "set orig " ++ field) x → ⊥
+unfolding setting_line
+no_orig field side none (Orig id) h = none id h.within (field_same (codes "set orig ") field (hex_field id) h.spelled)
+no_orig field side none x h = let e : 546 ≡ kind x = kind_of_text side (codes "set orig " ++ field) x h in omega (arith, e)
+
+pub no_retry : (field : List ℕ) (side : Side) → ((id : List ℕ) → IsFirst side id → field ≢ hex_field id) → (x : Setting) → IsNextSetting side (codes "set retry " ++ field) x → ⊥
+unfolding setting_line
+no_retry field side none (Retry id) h = none id h.within (field_same (codes "set retry ") field (hex_field id) h.spelled)
+no_retry field side none x h = let e : 561 ≡ kind x = kind_of_text side (codes "set retry " ++ field) x h in omega (arith, e)
 
 pub no_addr : (field : List ℕ) → ((a : SocketAddr) → IsAddress a → field ≢ address_text a) → (side : Side) (x : Setting) → IsNextSetting side (codes "set addr " ++ field) x → ⊥
 unfolding setting_line
 no_addr field none side (Addr a) h = none a h.within (field_same (codes "set addr ") field (address_text a) h.spelled)
-no_addr field none side x h = let e : 197 ≡ kind x = kind_of_text side (codes "set addr " ++ field) x h in omega (arith, e)
+no_addr field none side x h = let e : 494 ≡ kind x = kind_of_text side (codes "set addr " ++ field) x h in omega (arith, e)
+
+pub no_validated : (field : List ℕ) (side : Side) → ((validated : Bool) → IsValidated side validated → field ≢ flag_text validated) → (x : Setting) → IsNextSetting side (codes "set validated " ++ field) x → ⊥
+unfolding setting_line
+no_validated field side none (Validated validated) h = none validated h.within (field_same (codes "set validated ") field (flag_text validated) h.spelled)
+no_validated field side none x h = let e : 549 ≡ kind x = kind_of_text side (codes "set validated " ++ field) x h in omega (arith, e)
 
 pub no_token : (field : List ℕ) (side : Side) → ((bytes : List ℕ) → IsToken side bytes → field ≢ hex_field bytes) → (x : Setting) → IsNextSetting side (codes "set token " ++ field) x → ⊥
 unfolding setting_line
 no_token field side none (Token bytes) h = none bytes h.within (field_same (codes "set token ") field (hex_field bytes) h.spelled)
-no_token field side none x h = let e : 227 ≡ kind x = kind_of_text side (codes "set token " ++ field) x h in omega (arith, e)
+no_token field side none x h = let e : 557 ≡ kind x = kind_of_text side (codes "set token " ++ field) x h in omega (arith, e)
 
 pub no_secret : (field : List ℕ) → ((bytes : List ℕ) → IsSecret bytes → field ≢ hex_field bytes) → (side : Side) (x : Setting) → IsNextSetting side (codes "set secret " ++ field) x → ⊥
 unfolding setting_line
 no_secret field none side (Secret bytes) h = none bytes h.within (field_same (codes "set secret ") field (hex_field bytes) h.spelled)
-no_secret field none side x h = let e : 216 ≡ kind x = kind_of_text side (codes "set secret " ++ field) x h in omega (arith, e)
+no_secret field none side x h = let e : 529 ≡ kind x = kind_of_text side (codes "set secret " ++ field) x h in omega (arith, e)
 
 pub no_limit_initial : (field : List ℕ) → ((n : ℕ) → n < 2 ^ 64 → field ≢ decimal n) → (side : Side) (x : Setting) → IsNextSetting side (codes "set limit_initial " ++ field) x → ⊥
 unfolding setting_line
 no_limit_initial field none side (LimitInitial n) h = none n h.within (field_same (codes "set limit_initial ") field (decimal n) h.spelled)
-no_limit_initial field none side x h = let e : 318 ≡ kind x = kind_of_text side (codes "set limit_initial " ++ field) x h in omega (arith, e)
+no_limit_initial field none side x h = let e : 644 ≡ kind x = kind_of_text side (codes "set limit_initial " ++ field) x h in omega (arith, e)
 
 pub no_limit_handshake : (field : List ℕ) → ((n : ℕ) → n < 2 ^ 64 → field ≢ decimal n) → (side : Side) (x : Setting) → IsNextSetting side (codes "set limit_handshake " ++ field) x → ⊥
 unfolding setting_line
 no_limit_handshake field none side (LimitHandshake n) h = none n h.within (field_same (codes "set limit_handshake ") field (decimal n) h.spelled)
-no_limit_handshake field none side x h = let e : 317 ≡ kind x = kind_of_text side (codes "set limit_handshake " ++ field) x h in omega (arith, e)
+no_limit_handshake field none side x h = let e : 643 ≡ kind x = kind_of_text side (codes "set limit_handshake " ++ field) x h in omega (arith, e)
 
 pub no_limit_data : (field : List ℕ) → ((n : ℕ) → n < 2 ^ 64 → field ≢ decimal n) → (side : Side) (x : Setting) → IsNextSetting side (codes "set limit_data " ++ field) x → ⊥
 unfolding setting_line
 no_limit_data field none side (LimitData n) h = none n h.within (field_same (codes "set limit_data ") field (decimal n) h.spelled)
-no_limit_data field none side x h = let e : 313 ≡ kind x = kind_of_text side (codes "set limit_data " ++ field) x h in omega (arith, e)
+no_limit_data field none side x h = let e : 639 ≡ kind x = kind_of_text side (codes "set limit_data " ++ field) x h in omega (arith, e)
 
 pub no_limit_failures : (field : List ℕ) → ((n : ℕ) → n < 2 ^ 64 → field ≢ decimal n) → (side : Side) (x : Setting) → IsNextSetting side (codes "set limit_failures " ++ field) x → ⊥
 unfolding setting_line
 no_limit_failures field none side (LimitFailures n) h = none n h.within (field_same (codes "set limit_failures ") field (decimal n) h.spelled)
-no_limit_failures field none side x h = let e : 315 ≡ kind x = kind_of_text side (codes "set limit_failures " ++ field) x h in omega (arith, e)
+no_limit_failures field none side x h = let e : 641 ≡ kind x = kind_of_text side (codes "set limit_failures " ++ field) x h in omega (arith, e)
 
 pub no_idle : (field : List ℕ) → ((n : ℕ) → n < 2 ^ 62 → field ≢ decimal n) → (side : Side) (x : Setting) → IsNextSetting side (codes "set idle " ++ field) x → ⊥
 unfolding setting_line
 no_idle field none side (Idle n) h = none n h.within (field_same (codes "set idle ") field (decimal n) h.spelled)
-no_idle field none side x h = let e : 205 ≡ kind x = kind_of_text side (codes "set idle " ++ field) x h in omega (arith, e)
+no_idle field none side x h = let e : 526 ≡ kind x = kind_of_text side (codes "set idle " ++ field) x h in omega (arith, e)
 
 pub no_mtud : (field : List ℕ) → ((flag : Bool) → field ≢ flag_text flag) → (side : Side) (x : Setting) → IsNextSetting side (codes "set mtud " ++ field) x → ⊥
 unfolding setting_line
 no_mtud field none side (Mtud flag) h = none flag (field_same (codes "set mtud ") field (flag_text flag) h.spelled)
-no_mtud field none side x h = let e : 225 ≡ kind x = kind_of_text side (codes "set mtud " ++ field) x h in omega (arith, e)
+no_mtud field none side x h = let e : 568 ≡ kind x = kind_of_text side (codes "set mtud " ++ field) x h in omega (arith, e)
 
 pub no_gso : (field : List ℕ) → ((flag : Bool) → field ≢ flag_text flag) → (side : Side) (x : Setting) → IsNextSetting side (codes "set gso " ++ field) x → ⊥
 unfolding setting_line
 no_gso field none side (Gso flag) h = none flag (field_same (codes "set gso ") field (flag_text flag) h.spelled)
-no_gso field none side x h = let e : 218 ≡ kind x = kind_of_text side (codes "set gso " ++ field) x h in omega (arith, e)
+no_gso field none side x h = let e : 543 ≡ kind x = kind_of_text side (codes "set gso " ++ field) x h in omega (arith, e)
 
 -- a text with none of the words is the line of no setting of the transport
 pub no_transport : (text : List ℕ) → ((rest : List ℕ) → text ≢ codes "set idle " ++ rest) → ((rest : List ℕ) → text ≢ codes "set mtud " ++ rest) → ((rest : List ℕ) → text ≢ codes "set gso " ++ rest)
@@ -239,32 +275,37 @@ transport_read side text (Some x) h = h
 -- a text with none of the words is the line of no setting
 no_set_word : (text : List ℕ) → ((rest : List ℕ) → text ≢ codes "set random " ++ rest) → ((rest : List ℕ) → text ≢ codes "set time " ++ rest) → ((rest : List ℕ) → text ≢ codes "set local " ++ rest) → ((rest : List ℕ) → text ≢ codes "set remote " ++ rest)
     → ((rest : List ℕ) → text ≢ codes "set first " ++ rest) → ((rest : List ℕ) → text ≢ codes "set addr " ++ rest) → ((rest : List ℕ) → text ≢ codes "set token " ++ rest) → ((rest : List ℕ) → text ≢ codes "set secret " ++ rest)
-    → ((rest : List ℕ) → text ≢ codes "set limit_initial " ++ rest) → ((rest : List ℕ) → text ≢ codes "set limit_handshake " ++ rest) → ((rest : List ℕ) → text ≢ codes "set limit_data " ++ rest) → ((rest : List ℕ) → text ≢ codes "set limit_failures " ++ rest) → ((side : Side) (x : Setting) → IsOfTransport x → IsNextSetting side text x → ⊥)
+    → ((rest : List ℕ) → text ≢ codes "set limit_initial " ++ rest) → ((rest : List ℕ) → text ≢ codes "set limit_handshake " ++ rest) → ((rest : List ℕ) → text ≢ codes "set limit_data " ++ rest) → ((rest : List ℕ) → text ≢ codes "set limit_failures " ++ rest)
+    → ((rest : List ℕ) → text ≢ codes "set orig " ++ rest) → ((rest : List ℕ) → text ≢ codes "set retry " ++ rest) → ((rest : List ℕ) → text ≢ codes "set validated " ++ rest) → ((side : Side) (x : Setting) → IsOfTransport x → IsNextSetting side text x → ⊥)
     → (side : Side) (x : Setting) → IsNextSetting side text x → ⊥
 unfolding setting_line
-no_set_word text randoms times locals remotes firsts addrs tokens secrets initials handshakes datas failures transports side (Random words) h = randoms (random_text words) (words_and_field (codes "set random ") text (random_text words) h.spelled)
-no_set_word text randoms times locals remotes firsts addrs tokens secrets initials handshakes datas failures transports side (Time now) h = times (decimal now) (words_and_field (codes "set time ") text (decimal now) h.spelled)
-no_set_word text randoms times locals remotes firsts addrs tokens secrets initials handshakes datas failures transports side (Local id) h = locals (hex_field id) (words_and_field (codes "set local ") text (hex_field id) h.spelled)
-no_set_word text randoms times locals remotes firsts addrs tokens secrets initials handshakes datas failures transports side (Remote id) h = remotes (hex_field id) (words_and_field (codes "set remote ") text (hex_field id) h.spelled)
-no_set_word text randoms times locals remotes firsts addrs tokens secrets initials handshakes datas failures transports side (First id) h = firsts (hex_field id) (words_and_field (codes "set first ") text (hex_field id) h.spelled)
-no_set_word text randoms times locals remotes firsts addrs tokens secrets initials handshakes datas failures transports side (Addr address) h = addrs (address_text address) (words_and_field (codes "set addr ") text (address_text address) h.spelled)
-no_set_word text randoms times locals remotes firsts addrs tokens secrets initials handshakes datas failures transports side (Token bytes) h = tokens (hex_field bytes) (words_and_field (codes "set token ") text (hex_field bytes) h.spelled)
-no_set_word text randoms times locals remotes firsts addrs tokens secrets initials handshakes datas failures transports side (Secret bytes) h = secrets (hex_field bytes) (words_and_field (codes "set secret ") text (hex_field bytes) h.spelled)
-no_set_word text randoms times locals remotes firsts addrs tokens secrets initials handshakes datas failures transports side (LimitInitial packets) h = initials (decimal packets) (words_and_field (codes "set limit_initial ") text (decimal packets) h.spelled)
-no_set_word text randoms times locals remotes firsts addrs tokens secrets initials handshakes datas failures transports side (LimitHandshake packets) h = handshakes (decimal packets) (words_and_field (codes "set limit_handshake ") text (decimal packets) h.spelled)
-no_set_word text randoms times locals remotes firsts addrs tokens secrets initials handshakes datas failures transports side (LimitData packets) h = datas (decimal packets) (words_and_field (codes "set limit_data ") text (decimal packets) h.spelled)
-no_set_word text randoms times locals remotes firsts addrs tokens secrets initials handshakes datas failures transports side (LimitFailures packets) h = failures (decimal packets) (words_and_field (codes "set limit_failures ") text (decimal packets) h.spelled)
-no_set_word text randoms times locals remotes firsts addrs tokens secrets initials handshakes datas failures transports side (Idle limit) h = transports side (Idle limit) tt h
-no_set_word text randoms times locals remotes firsts addrs tokens secrets initials handshakes datas failures transports side (Mtud allowed) h = transports side (Mtud allowed) tt h
-no_set_word text randoms times locals remotes firsts addrs tokens secrets initials handshakes datas failures transports side (Gso allowed) h = transports side (Gso allowed) tt h
+no_set_word text randoms times locals remotes firsts addrs tokens secrets initials handshakes datas failures origs retries validateds transports side (Random words) h = randoms (random_text words) (words_and_field (codes "set random ") text (random_text words) h.spelled)
+no_set_word text randoms times locals remotes firsts addrs tokens secrets initials handshakes datas failures origs retries validateds transports side (Time now) h = times (decimal now) (words_and_field (codes "set time ") text (decimal now) h.spelled)
+no_set_word text randoms times locals remotes firsts addrs tokens secrets initials handshakes datas failures origs retries validateds transports side (Local id) h = locals (hex_field id) (words_and_field (codes "set local ") text (hex_field id) h.spelled)
+no_set_word text randoms times locals remotes firsts addrs tokens secrets initials handshakes datas failures origs retries validateds transports side (Remote id) h = remotes (hex_field id) (words_and_field (codes "set remote ") text (hex_field id) h.spelled)
+no_set_word text randoms times locals remotes firsts addrs tokens secrets initials handshakes datas failures origs retries validateds transports side (First id) h = firsts (hex_field id) (words_and_field (codes "set first ") text (hex_field id) h.spelled)
+no_set_word text randoms times locals remotes firsts addrs tokens secrets initials handshakes datas failures origs retries validateds transports side (Orig id) h = origs (hex_field id) (words_and_field (codes "set orig ") text (hex_field id) h.spelled)
+no_set_word text randoms times locals remotes firsts addrs tokens secrets initials handshakes datas failures origs retries validateds transports side (Retry id) h = retries (hex_field id) (words_and_field (codes "set retry ") text (hex_field id) h.spelled)
+no_set_word text randoms times locals remotes firsts addrs tokens secrets initials handshakes datas failures origs retries validateds transports side (Addr address) h = addrs (address_text address) (words_and_field (codes "set addr ") text (address_text address) h.spelled)
+no_set_word text randoms times locals remotes firsts addrs tokens secrets initials handshakes datas failures origs retries validateds transports side (Validated validated) h = validateds (flag_text validated) (words_and_field (codes "set validated ") text (flag_text validated) h.spelled)
+no_set_word text randoms times locals remotes firsts addrs tokens secrets initials handshakes datas failures origs retries validateds transports side (Token bytes) h = tokens (hex_field bytes) (words_and_field (codes "set token ") text (hex_field bytes) h.spelled)
+no_set_word text randoms times locals remotes firsts addrs tokens secrets initials handshakes datas failures origs retries validateds transports side (Secret bytes) h = secrets (hex_field bytes) (words_and_field (codes "set secret ") text (hex_field bytes) h.spelled)
+no_set_word text randoms times locals remotes firsts addrs tokens secrets initials handshakes datas failures origs retries validateds transports side (LimitInitial packets) h = initials (decimal packets) (words_and_field (codes "set limit_initial ") text (decimal packets) h.spelled)
+no_set_word text randoms times locals remotes firsts addrs tokens secrets initials handshakes datas failures origs retries validateds transports side (LimitHandshake packets) h = handshakes (decimal packets) (words_and_field (codes "set limit_handshake ") text (decimal packets) h.spelled)
+no_set_word text randoms times locals remotes firsts addrs tokens secrets initials handshakes datas failures origs retries validateds transports side (LimitData packets) h = datas (decimal packets) (words_and_field (codes "set limit_data ") text (decimal packets) h.spelled)
+no_set_word text randoms times locals remotes firsts addrs tokens secrets initials handshakes datas failures origs retries validateds transports side (LimitFailures packets) h = failures (decimal packets) (words_and_field (codes "set limit_failures ") text (decimal packets) h.spelled)
+no_set_word text randoms times locals remotes firsts addrs tokens secrets initials handshakes datas failures origs retries validateds transports side (Idle limit) h = transports side (Idle limit) tt h
+no_set_word text randoms times locals remotes firsts addrs tokens secrets initials handshakes datas failures origs retries validateds transports side (Mtud allowed) h = transports side (Mtud allowed) tt h
+no_set_word text randoms times locals remotes firsts addrs tokens secrets initials handshakes datas failures origs retries validateds transports side (Gso allowed) h = transports side (Gso allowed) tt h
 
 -- behind the other words the reader of the transport's settings reads each setting
 pub last_read : (text : List ℕ) → ((rest : List ℕ) → text ≢ codes "set random " ++ rest) → ((rest : List ℕ) → text ≢ codes "set time " ++ rest) → ((rest : List ℕ) → text ≢ codes "set local " ++ rest) → ((rest : List ℕ) → text ≢ codes "set remote " ++ rest)
     → ((rest : List ℕ) → text ≢ codes "set first " ++ rest) → ((rest : List ℕ) → text ≢ codes "set addr " ++ rest) → ((rest : List ℕ) → text ≢ codes "set token " ++ rest) → ((rest : List ℕ) → text ≢ codes "set secret " ++ rest)
-    → ((rest : List ℕ) → text ≢ codes "set limit_initial " ++ rest) → ((rest : List ℕ) → text ≢ codes "set limit_handshake " ++ rest) → ((rest : List ℕ) → text ≢ codes "set limit_data " ++ rest) → ((rest : List ℕ) → text ≢ codes "set limit_failures " ++ rest) → (r : Option Setting) → ((side : Side) → IsTransportRead side text r)
+    → ((rest : List ℕ) → text ≢ codes "set limit_initial " ++ rest) → ((rest : List ℕ) → text ≢ codes "set limit_handshake " ++ rest) → ((rest : List ℕ) → text ≢ codes "set limit_data " ++ rest) → ((rest : List ℕ) → text ≢ codes "set limit_failures " ++ rest)
+    → ((rest : List ℕ) → text ≢ codes "set orig " ++ rest) → ((rest : List ℕ) → text ≢ codes "set retry " ++ rest) → ((rest : List ℕ) → text ≢ codes "set validated " ++ rest) → (r : Option Setting) → ((side : Side) → IsTransportRead side text r)
     → (side : Side) → IsSettingRead side text r
-last_read text randoms times locals remotes firsts addrs tokens secrets initials handshakes datas failures None h side = no_set_word text randoms times locals remotes firsts addrs tokens secrets initials handshakes datas failures h side
-last_read text randoms times locals remotes firsts addrs tokens secrets initials handshakes datas failures (Some x) h side = h side
+last_read text randoms times locals remotes firsts addrs tokens secrets initials handshakes datas failures origs retries validateds None h side = no_set_word text randoms times locals remotes firsts addrs tokens secrets initials handshakes datas failures origs retries validateds h side
+last_read text randoms times locals remotes firsts addrs tokens secrets initials handshakes datas failures origs retries validateds (Some x) h side = h side
 
 -- ---- lines and settings
 
@@ -331,7 +372,12 @@ setting_line_injective side (Remote id) (Remote id') h k e =
     ap Remote (hex_field_injective id id' (remote_bytes side id h).0 (remote_bytes side id' k).0 (fields_same_behind (codes "set remote ") (hex_field id) (hex_field id') e))
 setting_line_injective side (First id) (First id') h k e =
     ap First (hex_field_injective id id' (first_bytes side id h).0 (first_bytes side id' k).0 (fields_same_behind (codes "set first ") (hex_field id) (hex_field id') e))
+setting_line_injective side (Orig id) (Orig id') h k e =
+    ap Orig (hex_field_injective id id' (first_bytes side id h).0 (first_bytes side id' k).0 (fields_same_behind (codes "set orig ") (hex_field id) (hex_field id') e))
+setting_line_injective side (Retry id) (Retry id') h k e =
+    ap Retry (hex_field_injective id id' (first_bytes side id h).0 (first_bytes side id' k).0 (fields_same_behind (codes "set retry ") (hex_field id) (hex_field id') e))
 setting_line_injective side (Addr a) (Addr a') h k e = ap Addr (address_injective a a' h k (fields_same_behind (codes "set addr ") (address_text a) (address_text a') e))
+setting_line_injective side (Validated a) (Validated b) h k e = ap Validated (flag_injective a b (fields_same_behind (codes "set validated ") (flag_text a) (flag_text b) e))
 setting_line_injective side (Token bytes) (Token bytes') h k e =
     ap Token (hex_field_injective bytes bytes' (token_bytes side bytes h) (token_bytes side bytes' k) (fields_same_behind (codes "set token ") (hex_field bytes) (hex_field bytes') e))
 setting_line_injective side (Secret bytes) (Secret bytes') h k e = ap Secret (hex_field_injective bytes bytes' h.0 k.0 (fields_same_behind (codes "set secret ") (hex_field bytes) (hex_field bytes') e))
@@ -352,7 +398,10 @@ setting_word (Time now) = refl
 setting_word (Local id) = refl
 setting_word (Remote id) = refl
 setting_word (First id) = refl
+setting_word (Orig id) = refl
+setting_word (Retry id) = refl
 setting_word (Addr address) = refl
+setting_word (Validated validated) = refl
 setting_word (Token bytes) = refl
 setting_word (Secret bytes) = refl
 setting_word (LimitInitial packets) = refl
@@ -374,7 +423,10 @@ setting_ends (Time now) = (codes "set time " ++ decimal now, sym (append_assoc (
 setting_ends (Local id) = (codes "set local " ++ hex_field id, sym (append_assoc (codes "set local ") (hex_field id) (10 ∷ [])))
 setting_ends (Remote id) = (codes "set remote " ++ hex_field id, sym (append_assoc (codes "set remote ") (hex_field id) (10 ∷ [])))
 setting_ends (First id) = (codes "set first " ++ hex_field id, sym (append_assoc (codes "set first ") (hex_field id) (10 ∷ [])))
+setting_ends (Orig id) = (codes "set orig " ++ hex_field id, sym (append_assoc (codes "set orig ") (hex_field id) (10 ∷ [])))
+setting_ends (Retry id) = (codes "set retry " ++ hex_field id, sym (append_assoc (codes "set retry ") (hex_field id) (10 ∷ [])))
 setting_ends (Addr address) = (codes "set addr " ++ address_text address, sym (append_assoc (codes "set addr ") (address_text address) (10 ∷ [])))
+setting_ends (Validated validated) = (codes "set validated " ++ flag_text validated, sym (append_assoc (codes "set validated ") (flag_text validated) (10 ∷ [])))
 setting_ends (Token bytes) = (codes "set token " ++ hex_field bytes, sym (append_assoc (codes "set token ") (hex_field bytes) (10 ∷ [])))
 setting_ends (Secret bytes) = (codes "set secret " ++ hex_field bytes, sym (append_assoc (codes "set secret ") (hex_field bytes) (10 ∷ [])))
 setting_ends (LimitInitial packets) = (codes "set limit_initial " ++ decimal packets, sym (append_assoc (codes "set limit_initial ") (decimal packets) (10 ∷ [])))

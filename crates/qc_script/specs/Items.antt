@@ -5,11 +5,11 @@ use Rattle.qc_base.specs.declared.side.Side.{Side}
 use Rattle.qc_state.specs.declared.input.Input.{Input}
 use Rattle.qc_script.specs.declared.settings.Settings.{Settings}
 use Rattle.qc_script.specs.declared.settings.Setting.{Setting}
-use Rattle.qc_script.specs.declared.settings.Setting.TheVariants.{Random, Time, Local, Remote, First, Addr, Token, Secret, LimitInitial, LimitHandshake, LimitData, LimitFailures, Idle, Mtud, Gso}
+use Rattle.qc_script.specs.declared.settings.Setting.TheVariants.{Random, Time, Local, Remote, First, Addr, Token, Secret, LimitInitial, LimitHandshake, LimitData, LimitFailures, Idle, Mtud, Gso, Orig, Retry, Validated}
 use Rattle.qc_script.specs.declared.items.Item.{Item}
 use Rattle.qc_script.specs.declared.items.Item.TheVariants as It
 use Rattle.qc_script.specs.Fields.{hex_field, address_text, flag_text, IsAddress}
-use Rattle.qc_script.specs.Script.{random_text, IsRandom, IsId, IsRemote, IsFirst, IsToken, IsSecret, IsWithin, input_line}
+use Rattle.qc_script.specs.Script.{random_text, IsRandom, IsId, IsRemote, IsFirst, IsValidated, IsToken, IsSecret, IsWithin, input_line}
 
 -- the line of a setting
 unfoldable pub setting_line : Setting → List ℕ
@@ -18,7 +18,10 @@ setting_line (Time now) = codes "set time " ++ (decimal now ++ 10 ∷ [])
 setting_line (Local id) = codes "set local " ++ (hex_field id ++ 10 ∷ [])
 setting_line (Remote id) = codes "set remote " ++ (hex_field id ++ 10 ∷ [])
 setting_line (First id) = codes "set first " ++ (hex_field id ++ 10 ∷ [])
+setting_line (Orig id) = codes "set orig " ++ (hex_field id ++ 10 ∷ [])
+setting_line (Retry id) = codes "set retry " ++ (hex_field id ++ 10 ∷ [])
 setting_line (Addr address) = codes "set addr " ++ (address_text address ++ 10 ∷ [])
+setting_line (Validated validated) = codes "set validated " ++ (flag_text validated ++ 10 ∷ [])
 setting_line (Token bytes) = codes "set token " ++ (hex_field bytes ++ 10 ∷ [])
 setting_line (Secret bytes) = codes "set secret " ++ (hex_field bytes ++ 10 ∷ [])
 setting_line (LimitInitial packets) = codes "set limit_initial " ++ (decimal packets ++ 10 ∷ [])
@@ -36,7 +39,10 @@ IsSetting side (Time now) = now < 2 ^ 64
 IsSetting side (Local id) = IsId id
 IsSetting side (Remote id) = IsRemote side id
 IsSetting side (First id) = IsFirst side id
+IsSetting side (Orig id) = IsFirst side id
+IsSetting side (Retry id) = IsFirst side id
 IsSetting side (Addr address) = IsAddress address
+IsSetting side (Validated validated) = IsValidated side validated
 IsSetting side (Token bytes) = IsToken side bytes
 IsSetting side (Secret bytes) = IsSecret bytes
 IsSetting side (LimitInitial packets) = packets < 2 ^ 64
@@ -76,16 +82,19 @@ setting_place (Time now) = 2
 setting_place (Local id) = 3
 setting_place (Remote id) = 4
 setting_place (First id) = 5
-setting_place (Addr address) = 6
-setting_place (Token bytes) = 7
-setting_place (Secret bytes) = 8
-setting_place (LimitInitial packets) = 9
-setting_place (LimitHandshake packets) = 10
-setting_place (LimitData packets) = 11
-setting_place (LimitFailures packets) = 12
-setting_place (Idle limit) = 13
-setting_place (Mtud allowed) = 14
-setting_place (Gso allowed) = 15
+setting_place (Orig id) = 6
+setting_place (Retry id) = 7
+setting_place (Addr address) = 8
+setting_place (Validated validated) = 9
+setting_place (Token bytes) = 10
+setting_place (Secret bytes) = 11
+setting_place (LimitInitial packets) = 12
+setting_place (LimitHandshake packets) = 13
+setting_place (LimitData packets) = 14
+setting_place (LimitFailures packets) = 15
+setting_place (Idle limit) = 16
+setting_place (Mtud allowed) = 17
+setting_place (Gso allowed) = 18
 
 -- the settings with this one among them
 abbrev pub with_setting : Settings → Setting → Settings
@@ -94,7 +103,10 @@ with_setting s (Time now) = record s { time = Some now }
 with_setting s (Local id) = record s { local = Some id }
 with_setting s (Remote id) = record s { remote = Some id }
 with_setting s (First id) = record s { first = Some id }
+with_setting s (Orig id) = record s { orig = Some id }
+with_setting s (Retry id) = record s { retry = Some id }
 with_setting s (Addr address) = record s { addr = Some address }
+with_setting s (Validated validated) = record s { validated = Some validated }
 with_setting s (Token bytes) = record s { token = Some bytes }
 with_setting s (Secret bytes) = record s { secret = Some bytes }
 with_setting s (LimitInitial packets) = record s { limit_initial = Some packets }
@@ -107,7 +119,7 @@ with_setting s (Gso allowed) = record s { gso = Some allowed }
 
 -- what a script says whose one line names this side
 abbrev pub side_alone : Side → Settings
-side_alone side = record { side = side; random = None; time = None; local = None; remote = None; first = None; addr = None; token = None; secret = None; limit_initial = None; limit_handshake = None; limit_data = None; limit_failures = None; idle = None; mtud = None; gso = None }
+side_alone side = record { side = side; random = None; time = None; local = None; remote = None; first = None; orig = None; retry = None; addr = None; validated = None; token = None; secret = None; limit_initial = None; limit_handshake = None; limit_data = None; limit_failures = None; idle = None; mtud = None; gso = None }
 
 -- the line of an item
 abbrev pub item_line : Item → List ℕ
@@ -122,7 +134,7 @@ IsItem side (It.Input input) = IsWithin input
 -- the place of an item's line: an input's is that behind all set lines
 abbrev pub item_place : Item → ℕ
 item_place (It.Set setting) = setting_place setting
-item_place (It.Input input) = 16
+item_place (It.Input input) = 19
 
 -- the item's line may follow one of place `before`: a set line follows one of a lesser place, and an input any line
 abbrev pub Follows : (before : ℕ) → Item → Type 0

@@ -9,7 +9,10 @@
 --     set remote H      on a client the destination id of its first packets, of 8 bytes at least, and on a server the client's
 --                       id (8 bytes 02)
 --     set first H       on a server the destination id of the client's first packets (8 bytes 03)
+--     set orig H        on a server the destination id of the client's packets before its Retry (that of its first packets)
+--     set retry H       on a server the source id of its Retry (none)
 --     set addr A        the peer's address (::1, port 4433)
+--     set validated F   on a server whether the peer's address is validated: `0` or `1` (0)
 --     set token H       on a client the token that its Initial packets carry (none)
 --     set secret H      the toy's secret, of 5 bytes (zeros)
 --     set limit_initial N    how many packets an Initial key may seal (2^23)
@@ -98,7 +101,10 @@ set_lines s =
     ++ (line_if (codes "set local ") hex_field s.local
     ++ (line_if (codes "set remote ") hex_field s.remote
     ++ (line_if (codes "set first ") hex_field s.first
+    ++ (line_if (codes "set orig ") hex_field s.orig
+    ++ (line_if (codes "set retry ") hex_field s.retry
     ++ (line_if (codes "set addr ") address_text s.addr
+    ++ (line_if (codes "set validated ") flag_text s.validated
     ++ (line_if (codes "set token ") hex_field s.token
     ++ (line_if (codes "set secret ") hex_field s.secret
     ++ (line_if (codes "set limit_initial ") decimal s.limit_initial
@@ -107,7 +113,7 @@ set_lines s =
     ++ (line_if (codes "set limit_failures ") decimal s.limit_failures
     ++ (line_if (codes "set idle ") decimal s.idle
     ++ (line_if (codes "set mtud ") flag_text s.mtud
-    ++ line_if (codes "set gso ") flag_text s.gso))))))))))))))
+    ++ line_if (codes "set gso ") flag_text s.gso)))))))))))))))))
 
 -- a seed has 32 bytes
 abbrev pub IsSeed : List ℕ → Type 0
@@ -127,10 +133,15 @@ abbrev pub IsRemote : Side → List ℕ → Type 0
 IsRemote Client id = IsId id × (8 ≤ length id)
 IsRemote Server id = IsId id
 
--- only a server is told the destination id of the client's first packets
+-- only a server is told the destination ids of the client's packets, and the id of its Retry
 abbrev pub IsFirst : Side → List ℕ → Type 0
 IsFirst Client id = ⊥
 IsFirst Server id = IsId id
+
+-- only a server is told whether the peer's address is validated
+abbrev pub IsValidated : Side → Bool → Type 0
+IsValidated Client validated = ⊥
+IsValidated Server validated = Unit {0}
 
 -- only a client is told a token
 abbrev pub IsToken : Side → List ℕ → Type 0
@@ -141,14 +152,17 @@ IsToken Server bytes = ⊥
 abbrev pub IsSecret : List ℕ → Type 0
 IsSecret bytes = IsBytes bytes × (length bytes ≡ 5)
 
--- what the set lines say lies within its bounds; a flag has none
+-- what the set lines say lies within its bounds; the other flags have none
 pub record AreSettings (s : Settings) : Type 0 where
   pub random : IfSome s.random IsRandom
   pub time : IfSome s.time (λ n. n < 2 ^ 64)
   pub local : IfSome s.local IsId
   pub remote : IfSome s.remote (IsRemote s.side)
   pub first : IfSome s.first (IsFirst s.side)
+  pub orig : IfSome s.orig (IsFirst s.side)
+  pub retry : IfSome s.retry (IsFirst s.side)
   pub addr : IfSome s.addr IsAddress
+  pub validated : IfSome s.validated (IsValidated s.side)
   pub token : IfSome s.token (IsToken s.side)
   pub secret : IfSome s.secret IsSecret
   pub limit_initial : IfSome s.limit_initial (λ n. n < 2 ^ 64)

@@ -145,6 +145,32 @@ fn first_line(alloc: Global, side: Side, field: &[u8]) -> Result<Option<Setting>
     }
 }
 
+/// What a line sets that gives the destination id of the client's packets before its Retry.
+fn orig_line(alloc: Global, side: Side, field: &[u8]) -> Result<Option<Setting>, AllocError>
+    ensures { IfOk result (IsSettingRead side (codes "set orig " ++ field.now)) }
+{
+    match side {
+        Side::Client => Ok(None),
+        Side::Server => match read_id(alloc, field)? {
+            Some(id) => Ok(Some(Setting::Orig(id))),
+            None => Ok(None),
+        },
+    }
+}
+
+/// What a line sets that gives the source id of a server's Retry.
+fn retry_line(alloc: Global, side: Side, field: &[u8]) -> Result<Option<Setting>, AllocError>
+    ensures { IfOk result (IsSettingRead side (codes "set retry " ++ field.now)) }
+{
+    match side {
+        Side::Client => Ok(None),
+        Side::Server => match read_id(alloc, field)? {
+            Some(id) => Ok(Some(Setting::Retry(id))),
+            None => Ok(None),
+        },
+    }
+}
+
 /// What a line sets that gives the peer's address.
 fn addr_line(alloc: Global, field: &[u8]) -> Result<Option<Setting>, AllocError>
     ensures { IfOk result (λ r. (side : Side) → IsSettingRead side (codes "set addr " ++ field.now) r) }
@@ -152,6 +178,19 @@ fn addr_line(alloc: Global, field: &[u8]) -> Result<Option<Setting>, AllocError>
     match read_address(alloc, field)? {
         Some(address) => Ok(Some(Setting::Addr(address))),
         None => Ok(None),
+    }
+}
+
+/// What a line sets that says whether the peer's address is validated.
+fn validated_line(side: Side, field: &[u8]) -> Option<Setting>
+    ensures { IsSettingRead side (codes "set validated " ++ field.now) result }
+{
+    match side {
+        Side::Client => None,
+        Side::Server => match read_flag(field) {
+            Some(validated) => Some(Setting::Validated(validated)),
+            None => None,
+        },
     }
 }
 
@@ -303,6 +342,15 @@ pub fn read_setting(alloc: Global, side: Side, text: &[u8]) -> Result<Option<Set
     }
     if let Some(digits) = after_word(text, b"set limit_failures ") {
         return Ok(limit_failures_line(digits));
+    }
+    if let Some(field) = after_word(text, b"set orig ") {
+        return orig_line(alloc, side, field);
+    }
+    if let Some(field) = after_word(text, b"set retry ") {
+        return retry_line(alloc, side, field);
+    }
+    if let Some(field) = after_word(text, b"set validated ") {
+        return Ok(validated_line(side, field));
     }
     Ok(transport_line(text))
 }

@@ -31,8 +31,14 @@ pub struct Settings {
     pub remote: Option<ConnectionId>,
     /// On a server the destination id of the client's first packets; none on a client.
     pub first: Option<ConnectionId>,
+    /// On a server the destination id of the client's packets before its Retry; none on a client.
+    pub orig: Option<ConnectionId>,
+    /// On a server the source id of its Retry (RFC 9000, 17.2.5); none on a client.
+    pub retry: Option<ConnectionId>,
     /// The peer's address.
     pub addr: Option<SocketAddr>,
+    /// On a server whether the peer's address is validated (RFC 9000, 8.1); none on a client.
+    pub validated: Option<bool>,
     /// On a client the token that its Initial packets carry (RFC 9000, 8.1); none on a server.
     pub token: Option<Body>,
     /// The secret of the toy's keys.
@@ -66,8 +72,14 @@ pub enum Setting {
     Remote(ConnectionId),
     /// What `Settings::first` is.
     First(ConnectionId),
+    /// What `Settings::orig` is.
+    Orig(ConnectionId),
+    /// What `Settings::retry` is.
+    Retry(ConnectionId),
     /// The peer's address.
     Addr(SocketAddr),
+    /// What `Settings::validated` is.
+    Validated(bool),
     /// What `Settings::token` is.
     Token(Body),
     /// The secret of the toy's keys.
@@ -99,16 +111,19 @@ impl Setting {
             Setting::Local(_) => 3,
             Setting::Remote(_) => 4,
             Setting::First(_) => 5,
-            Setting::Addr(_) => 6,
-            Setting::Token(_) => 7,
-            Setting::Secret(_) => 8,
-            Setting::LimitInitial(_) => 9,
-            Setting::LimitHandshake(_) => 10,
-            Setting::LimitData(_) => 11,
-            Setting::LimitFailures(_) => 12,
-            Setting::Idle(_) => 13,
-            Setting::Mtud(_) => 14,
-            Setting::Gso(_) => 15,
+            Setting::Orig(_) => 6,
+            Setting::Retry(_) => 7,
+            Setting::Addr(_) => 8,
+            Setting::Validated(_) => 9,
+            Setting::Token(_) => 10,
+            Setting::Secret(_) => 11,
+            Setting::LimitInitial(_) => 12,
+            Setting::LimitHandshake(_) => 13,
+            Setting::LimitData(_) => 14,
+            Setting::LimitFailures(_) => 15,
+            Setting::Idle(_) => 16,
+            Setting::Mtud(_) => 17,
+            Setting::Gso(_) => 18,
         }
     }
 }
@@ -125,7 +140,10 @@ impl Settings {
             local: None,
             remote: None,
             first: None,
+            orig: None,
+            retry: None,
             addr: None,
+            validated: None,
             token: None,
             secret: None,
             limit_initial: None,
@@ -148,7 +166,10 @@ impl Settings {
             Setting::Local(id) => self.local = Some(id),
             Setting::Remote(id) => self.remote = Some(id),
             Setting::First(id) => self.first = Some(id),
+            Setting::Orig(id) => self.orig = Some(id),
+            Setting::Retry(id) => self.retry = Some(id),
             Setting::Addr(address) => self.addr = Some(address),
+            Setting::Validated(validated) => self.validated = Some(validated),
             Setting::Token(bytes) => self.token = Some(bytes),
             Setting::Secret(bytes) => self.secret = Some(bytes),
             Setting::LimitInitial(packets) => self.limit_initial = Some(packets),

@@ -23,12 +23,13 @@ abbrev pub form_dying : Option Dying → Option Form
 form_dying None = None
 form_dying (Some dying) = Some dying.form
 
--- the same of what follows a packet, and of what follows a datagram
+-- the same of what follows a packet
 abbrev pub next_dying : Next → Option Form
 next_dying (next.Joins id) = None
 next_dying next.Full = None
 next_dying (next.Dies dying) = Some dying.form
 
+-- the close that ends the datagram behind this outcome, if one does
 abbrev pub outcome_dying : Outcome → Option Form
 outcome_dying (outcome.Begins id) = None
 outcome_dying (outcome.Ends paced) = None

@@ -29,7 +29,7 @@ IsTimed Release = Unit {0}
 IsTimed Outlive = Unit {0}
 IsTimed (Want time count) = Unit {0}
 IsTimed (Raise to) = to ≡ Drained
-IsTimed (Give why) = Unit {0}
+IsTimed (Give why) = why ≡ TimedOut
 IsTimed _ = ⊥
 
 module _ {t : Types} where
@@ -70,15 +70,15 @@ module _ {t : Types} (m : Meaning t) (R : At t → At t → Type 0) (here : (a :
       next a b _ (fire time a) (move (Arm (loss_time b.state (is_blocked b.state.paths) time)) tt b (record { blocked = is_blocked b.state.paths; time = time; set = refl }))
   fired_and time a false = here a
 
-  given_by : (why : ConnectionError) (a : At t) (b : Bool) → is_none a.state.life.reason ≡ b → R a (if b then move_to (Give why) a else a)
+  given_by : (a : At t) (b : Bool) → is_none a.state.life.reason ≡ b → R a (if b then move_to (Give TimedOut) a else a)
   unfolding MayMove
-  given_by why a true h = move (Give why) tt a (is_none_none a.state.life.reason h)
-  given_by why a false h = here a
+  given_by a true h = move (Give TimedOut) refl a (is_none_none a.state.life.reason h)
+  given_by a false h = here a
 
   -- the connection ends at once
-  holds_killed : (why : ConnectionError) (a : At t) → is_drained a.state.life.state ≡ false → R a (killed_after why a)
+  holds_killed : (a : At t) → is_drained a.state.life.state ≡ false → R a (killed_after TimedOut a)
   unfolding killed_after given_after MayMove
-  holds_killed why a h = next a (move_to (Raise Drained) a) _ (move (Raise Drained) refl a (low_rank a.state.life.state h)) (given_by why (move_to (Raise Drained) a) _ refl)
+  holds_killed a h = next a (move_to (Raise Drained) a) _ (move (Raise Drained) refl a (low_rank a.state.life.state h)) (given_by (move_to (Raise Drained) a) _ refl)
 
   -- or once it has waited for its peer
   raised_by : (a : At t) (b : Bool) → is_drained a.state.life.state ≡ false → R a (if b then move_to (Raise Drained) a else a)
@@ -91,7 +91,7 @@ module _ {t : Types} (m : Meaning t) (R : At t → At t → Type 0) (here : (a :
   unfolding close_expired killed_after given_after
   ended_by time a true h =
       let c : At t = killed_after TimedOut a in
-      subst (λ (x : Bool). R a (if x then move_to (Raise Drained) c else c)) (sym (killed_stops TimedOut time a (is_none (move_to (Raise Drained) a).state.life.reason))) (holds_killed TimedOut a h)
+      subst (λ (x : Bool). R a (if x then move_to (Raise Drained) c else c)) (sym (killed_stops TimedOut time a (is_none (move_to (Raise Drained) a).state.life.reason))) (holds_killed a h)
   ended_by time a false h = raised_by a (has_come a.state.timers.close time) h
 
   -- keys of the epoch before are dropped

@@ -2,6 +2,7 @@
 -- keys; and what the timer of old keys leaves of the timers.
 use Rattle.std.proofs.Common.{◌≡◌, refl, ap, sym, ◌∙◌, Bool, true, false, Option, Some, None, if◌then◌else◌}
 use Rattle.std.specs.Prelude.{ℕ, is_some}
+use Rattle.std.specs.Option.{option_map}
 use Rattle.qc_base.specs.declared.side.SpaceId.{SpaceId}
 use Rattle.qc_base.specs.declared.side.SpaceId.TheVariants.{Initial, Handshake, «Data»}
 use Rattle.qc_rings.specs.declared.which.Which.{Which}
@@ -12,7 +13,7 @@ use Rattle.qc_state.specs.declared.keys.KeyGroup.{KeyGroup}
 use Rattle.qc_state.specs.declared.keys.OneRttKeys.{OneRttKeys}
 use Rattle.qc_state.specs.declared.keys.SpaceKeys.{SpaceKeys}
 use Rattle.qc_state.specs.declared.timers.Timers.{Timers}
-use Rattle.qc_state.specs.Keys.{form_in, has_keys, has_keys_for, key_acked, key_discarded, key_opened, key_updated, ring_acked, ring_discarded, ring_opened, ring_updated}
+use Rattle.qc_state.specs.Keys.{form_in, has_keys, has_keys_for, key_acked, key_discarded, key_opened, key_updated, ring_acked, ring_discarded, ring_opened, ring_updated, initial_renewed}
 use Rattle.qc_state.specs.Timers.{timers_keeping}
 
 module _ {H P : Type 0} where
@@ -70,6 +71,21 @@ module _ {H P : Type 0} where
   pub discarded_moves : (v : KeyGroup H P) → RingMoves v (key_discarded v)
   unfolding key_discarded
   discarded_moves v = record { initial = refl; handshake = refl; highest = refl; there = discarded_there v.«data» }
+
+  -- keys that stand in the place of those of the Initial space
+  pub still_some : (o : Option (SpaceKeys H P)) (keys : SpaceKeys H P) → is_some (option_map (λ (k : SpaceKeys H P). keys) o) ≡ is_some o
+  still_some None keys = refl
+  still_some (Some k) keys = refl
+
+  pub renewed_keys : (v : KeyGroup H P) (keys : SpaceKeys H P) (id : SpaceId) → has_keys (initial_renewed v keys) id ≡ has_keys v id
+  unfolding initial_renewed has_keys has_keys_for form_in
+  renewed_keys v keys Initial = still_some v.initial keys
+  renewed_keys v keys Handshake = refl
+  renewed_keys v keys «Data» = refl
+
+  pub renewed_highest : (v : KeyGroup H P) (keys : SpaceKeys H P) → (initial_renewed v keys).highest ≡ v.highest
+  unfolding initial_renewed
+  renewed_highest v keys = refl
 
   -- so there are keys for the same forms, and in the same spaces
   pub same_keys_for : (v w : KeyGroup H P) → RingMoves v w → (f : Form) → has_keys_for w f ≡ has_keys_for v f

@@ -1,6 +1,6 @@
 -- What holds of each move that a packet which opened makes, holds of the packet. Each move is said to be one of this packet, so
 -- that a law can learn which payload a frame that is given belongs to.
-use Rattle.std.proofs.Common.{◌≡◌, ℕ, ◌<◌, inl, inr, List, [], ◌∷◌, length, refl, ap, sym, ◌∙◌, subst, Bool, true, false, Option, Some, None, if◌then◌else◌, arith}
+use Rattle.std.proofs.Common.{◌≡◌, ℕ, ◌<◌, ◌⊎◌, inl, inr, List, [], ◌∷◌, length, refl, ap, sym, ◌∙◌, subst, Bool, true, false, Option, Some, None, if◌then◌else◌, arith}
 use Rattle.std.specs.Prelude.{not, is_none, Result, Ok, Err, IfSome}
 use Rattle.std.specs.List.{list_any}
 use Rattle.qc_base.specs.declared.transport_error.TransportError.{TransportError}
@@ -33,7 +33,7 @@ use Rattle.qc_state.specs.Lower.{handed_stop, ready_bytes, session_read, stream_
 use Rattle.qc_state.specs.Moves.{Move, Arm, Unseal, Forget, Enter, Accept, Fix, Give, Hand, Insert, Switch, Retire, Ack, Come, Read, Ready, Shut, Tell, PeerClosesToo, PeerCloses, Owe, move_to, state_move, numbers_move, keys_move, life_move, paths_move, timers_move, waiting_move, setup_move, lower_move, MayMove, accepts, enters, armed_after, armed_with}
 use Rattle.qc_state.specs.Numbers.{is_new_in, next_number}
 use Rattle.qc_state.specs.Progress.{progress_after}
-use Rattle.qc_state.specs.Receiving.{reason_of, signs_of, stop_in, is_close_item, is_eliciting_item, left_after, rearmed_after, settled_after, acked_after, confirmed_after, applied_after, close_given, closed_in_data, end_after, crypto_stop, items_after, payload_after, fixes_peer, fixed_after, read_for_close, admitted_after, verdict_after, received_after, accepted_after, Behind, Goes, Closes, Ends, Course, Reads, Ended, close_after, ended_by, answered_after, bytes_given, kept_after, frame_after, course_with, handed_after, inserted_after, refused_after, retired_after, switched_after}
+use Rattle.qc_state.specs.Receiving.{reason_of, signs_of, stop_in, is_close_item, is_eliciting_item, left_after, rearmed_after, settled_after, acked_after, confirmed_after, applied_after, close_given, token_given, closed_in_data, end_after, crypto_stop, items_after, payload_after, fixes_peer, fixed_after, read_for_close, admitted_after, verdict_after, received_after, accepted_after, Behind, Goes, Closes, Ends, Course, Reads, Ended, close_after, ended_by, answered_after, bytes_given, kept_after, frame_after, course_with, handed_after, inserted_after, refused_after, retired_after, switched_after}
 use Rattle.qc_state.specs.Paths.{is_blocked, path_kept}
 use Rattle.qc_state.specs.Recovering.{loss_time, settled_by}
 use Rattle.qc_state.specs.Sending.{drops_initial, initial_left}
@@ -44,7 +44,7 @@ use Rattle.qc_state.specs.Verdicts.{first_row, verdict_of}
 use Rattle.qc_state.specs.View.{View, At}
 use Rattle.qc_state.proofs.Ends.{given_by, stopped_by}
 use Rattle.qc_state.proofs.Progresses.{holds_progress}
-use Rattle.qc_state.proofs.PacketMoves.{Bytes, Empty, EndsWith, Fault, IsAmong, IsFrameOf, IsGivenTo, IsInPacket, IsProgress, IsReasonOf, IsTypedOf, Kind, OpenPacket, Handed, Inserted, Refusal, Retired, Stops, progress_in_packet}
+use Rattle.qc_state.proofs.PacketMoves.{Bytes, Empty, EndsWith, Fault, IsAmong, IsErrorFor, IsFrameOf, IsGivenTo, IsInPacket, IsProgress, IsReasonOf, IsTypedOf, Kind, OpenPacket, Handed, Inserted, Parameters, Refusal, Retired, Stops, progress_in_packet}
 use Rattle.qc_state.proofs.ReceivedMoves.{close_for}
 
 -- ---- what a verdict on a packet that opened says of the view
@@ -188,11 +188,30 @@ module _ {t : Types} where
   progress_beside m time id (Tell d) s h = absurd h
   progress_beside m time id _ s h = tt
 
--- what holds of no move, of two moves one after the other, of the two by which the session is given bytes, of the two by which recovery is
--- given an ACK, and of each other move that the packet makes, where it may be made, holds of the packet
+  -- a cause for which this end closes that isn't the session's refusal of bytes
+  abbrev pub IsFound : {m : Meaning t} {o : OpenPacket} {s : View t} {error : TransportError} → Stops m o s error → Type 0
+  IsFound (Refusal bytes session refused behind) = ⊥
+  IsFound _ = Unit {0}
+
+  abbrev pub Finds : Meaning t → OpenPacket → View t → TransportError → Type 0
+  Finds m o s error = (stops : Stops m o s error) × IsFound stops
+
+  -- a reason that is given is that of a close in the packet, or an error for which this end just closed for such a cause
+  abbrev pub IsUnrefused : Meaning t → OpenPacket → Move t → View t → Type 0
+  IsUnrefused m o (Give why) s = IsReasonOf o why ⊎ IsErrorFor (Finds m o) o.coming.time why s
+  IsUnrefused m o _ s = Unit {0}
+
+  progress_unrefused : (m : Meaning t) (o : OpenPacket) (x : Move t) (s : View t) → IsProgress m o.coming.time o.space x s → IsUnrefused m o x s
+  progress_unrefused m o (Give why) s h = inr (record { error = h.error; reason = h.reason; before = h.before; closed = h.closed; cause = (Parameters h.cause, tt) })
+  progress_unrefused m o _ s h = tt
+
+-- what holds of no move, of two moves one after the other, of the two by which the session is given bytes, of these two and the end behind
+-- them where it refuses them, of the two by which recovery is given an ACK, and of each other move that the packet makes, where it may be made, holds of the packet
 module _ {t : Types} (m : Meaning t) (o : OpenPacket) (R : At t → At t → Type 0) (here : (a : At t) → R a a) (next : (a b c : At t) → R a b → R b c → R a c)
-    (move : (x : Move t) (a : At t) → IsInPacket m o x a.state → IsBeside x → MayMove x a.state → R a (move_to x a))
+    (move : (x : Move t) (a : At t) → IsInPacket m o x a.state → IsBeside x → IsUnrefused m o x a.state → MayMove x a.state → R a (move_to x a))
     (gave : (x : ℕ) (bytes : List ℕ) (a : At t) → x ∷ bytes ≡ ready_bytes (stream_of a.state.lower o.space) → R a (given_read m o x bytes a))
+    (refused : (x : ℕ) (bytes : List ℕ) (error : TransportError) (a : At t) → x ∷ bytes ≡ ready_bytes (stream_of a.state.lower o.space) → m.reads a.state.lower.session (x ∷ bytes) ≡ Err error →
+    R a (stopped_after o.coming.time error (given_read m o x bytes a)))
     (acked : (ack : AckValue) (a : At t) → IsFrameOf o (frames.Ack ack) → R a (given_ack m o ack a)) where
   -- a frame of this type stops nothing by its kind
   abbrev GoesOn : View t → (type : ℕ) → FrameValue → Type 0
@@ -203,28 +222,29 @@ module _ {t : Types} (m : Meaning t) (o : OpenPacket) (R : At t → At t → Typ
   IsCloseSoFar close = IfSome close (λ why. IsReasonOf o why)
 
   -- this end closes for an error, which the packet gives
-  stopped : (error : TransportError) (a : At t) → Stops m o a.state error → R a (stopped_after o.coming.time error a)
+  stopped : (error : TransportError) (a : At t) → Finds m o a.state error → R a (stopped_after o.coming.time error a)
   unfolding MayMove move_to
-  stopped error a stops =
+  stopped error a finds =
       let b : At t = move_to (Shut o.coming.time (close_for error)) a in
-      stopped_by R here next o.coming.time error a (λ low. move (Shut o.coming.time (close_for error)) a (record { same = refl; error = error; closes = refl; cause = stops }) tt low)
-      (λ none. move (Give (lost.TransportError error)) b (inr (record { error = error; reason = refl; before = a.state; closed = refl; cause = stops })) tt none)
+      stopped_by R here next o.coming.time error a (λ low. move (Shut o.coming.time (close_for error)) a (record { same = refl; error = error; closes = refl; cause = finds.0 }) tt tt low)
+      (λ none. move (Give (lost.TransportError error)) b (inr (record { error = error; reason = refl; before = a.state; closed = refl; cause = finds.0 })) tt
+      (inr (record { error = error; reason = refl; before = a.state; closed = refl; cause = finds })) none)
 
   -- the reason that a close of the peer's gives is given
   given : (why : ConnectionError) (a : At t) → IsReasonOf o why → R a (given_after why a)
   unfolding MayMove
-  given why a reason = given_by R here next why a (λ none. move (Give why) a (inl reason) tt none)
+  given why a reason = given_by R here next why a (λ none. move (Give why) a (inl reason) tt (inl reason) none)
 
   -- the loss timer is set anew
   armed : (a : At t) → R a (armed_after o.coming.time a)
   unfolding armed_after armed_with MayMove
-  armed a = move (Arm (loss_time a.state (is_blocked a.state.paths) o.coming.time)) a refl tt (record { blocked = is_blocked a.state.paths; time = o.coming.time; set = refl })
+  armed a = move (Arm (loss_time a.state (is_blocked a.state.paths) o.coming.time)) a refl tt tt (record { blocked = is_blocked a.state.paths; time = o.coming.time; set = refl })
 
   -- ---- closes, and acknowledgements
 
   left_by : (why : ConnectionError) (a : At t) (b : Bool) → is_open a.state.life.state ≡ b → IsReasonOf o why → R a (if b then given_after why (move_to (PeerCloses o.coming.time) a) else a)
   unfolding MayMove
-  left_by why a true h reason = next a (move_to (PeerCloses o.coming.time) a) _ (move (PeerCloses o.coming.time) a (refl, (why, reason)) tt (open_low a.state.life.state h)) (given why (move_to (PeerCloses o.coming.time) a) reason)
+  left_by why a true h reason = next a (move_to (PeerCloses o.coming.time) a) _ (move (PeerCloses o.coming.time) a (refl, (why, reason)) tt tt (open_low a.state.life.state h)) (given why (move_to (PeerCloses o.coming.time) a) reason)
   left_by why a false h reason = here a
 
   -- the peer closed: the connection drains, if it was open
@@ -238,8 +258,8 @@ module _ {t : Types} (m : Meaning t) (o : OpenPacket) (R : At t → At t → Typ
   holds_confirmed a h side space =
       let b : At t = move_to (Tell (did.Gave layer.Life (spelling frames.HandshakeDone))) a in
       let c : At t = move_to (Forget Handshake) b in
-      next a b _ (move (Tell (did.Gave layer.Life (spelling frames.HandshakeDone))) a (frames.HandshakeDone, h, tt, refl) tt tt)
-      (next b c _ (move (Forget Handshake) b (inl (side, space, h)) tt tt) (armed c))
+      next a b _ (move (Tell (did.Gave layer.Life (spelling frames.HandshakeDone))) a (frames.HandshakeDone, h, tt, refl) tt tt tt)
+      (next b c _ (move (Forget Handshake) b (inl (side, space, h)) tt tt tt) (armed c))
 
   -- the loss timer is set anew where packets were newly acknowledged
   holds_rearmed : (acked : List Entry) (a : At t) → R a (rearmed_after o.coming.time acked a)
@@ -255,12 +275,17 @@ module _ {t : Types} (m : Meaning t) (o : OpenPacket) (R : At t → At t → Typ
   -- a close of the peer's is given to the life
   holds_given_close : (f : FrameValue) (a : At t) → IsFrameOf o f → IsGivenTo layer.Life f → R a (close_given f a)
   unfolding close_given MayMove
-  holds_given_close f a h to = move (Tell (did.Gave layer.Life (spelling f))) a (f, h, to, refl) tt tt
+  holds_given_close f a h to = move (Tell (did.Gave layer.Life (spelling f))) a (f, h, to, refl) tt tt tt
+
+  -- a token of the server's is given to the store
+  holds_token : (f : FrameValue) (a : At t) → IsFrameOf o f → IsGivenTo layer.Store f → R a (token_given f a)
+  unfolding token_given MayMove
+  holds_token f a h to = move (Tell (did.Gave layer.Store (spelling f))) a (f, h, to, refl) tt tt tt
 
   -- the last close of a 1-RTT packet counts, where the connection was open
   data_by : (why : ConnectionError) (a : At t) (b : Bool) → is_open a.state.life.state ≡ b → IsReasonOf o why → R a (if b then move_to Owe (left_after o.coming.time why a) else a)
   unfolding MayMove
-  data_by why a true is reason = next a (left_after o.coming.time why a) _ (holds_left why a reason) (move Owe (left_after o.coming.time why a) tt tt (left_shut o.coming.time why a is))
+  data_by why a true is reason = next a (left_after o.coming.time why a) _ (holds_left why a reason) (move Owe (left_after o.coming.time why a) tt tt tt (left_shut o.coming.time why a is))
   data_by why a false is reason = here a
 
   -- it counts, or not
@@ -290,45 +315,43 @@ module _ {t : Types} (m : Meaning t) (o : OpenPacket) (R : At t → At t → Typ
 
   -- the handshake goes on behind the frames
   progress : (a : At t) → R a (progress_after m o.coming.time o.space a)
-  progress a = holds_progress m o.coming.time o.space R here next (λ x b h may. move x b (progress_in_packet m o x b.state h) (progress_beside m o.coming.time o.space x b.state h) may) a
+  progress a = holds_progress m o.coming.time o.space R here next (λ x b h may. move x b (progress_in_packet m o x b.state h) (progress_beside m o.coming.time o.space x b.state h) (progress_unrefused m o x b.state h) may) a
 
   -- ---- the frames
 
   -- an error ends the packet
-  holds_ended : (stop : Option TransportError) (does : At t → Behind t) (a : At t) → ((error : TransportError) → stop ≡ Some error → Stops m o a.state error) → (stop ≡ None → Leaves a (does a))
+  holds_ended : (stop : Option TransportError) (does : At t → Behind t) (a : At t) → ((error : TransportError) → stop ≡ Some error → Finds m o a.state error) → (stop ≡ None → Leaves a (does a))
       → Leaves a (ended_by o.coming.time stop does a)
   holds_ended (Some error) does a stops goes = stopped error a (stops error refl)
   holds_ended None does a stops goes = goes refl
 
-  -- the session answered a read of these bytes
-  holds_answered : (bytes : List ℕ) (session : t.S) (r : Result Bool TransportError) (a : At t) → m.reads session bytes ≡ r → a.state.lower.session ≡ m.after_read session bytes → Leaves a (answered_after o.coming r a)
+  -- the session is given bytes, and answers
+  holds_answered : (x : ℕ) (bytes : List ℕ) (r : Result Bool TransportError) (a : At t) → x ∷ bytes ≡ ready_bytes (stream_of a.state.lower o.space) → m.reads a.state.lower.session (x ∷ bytes) ≡ r →
+      Leaves a (answered_after o.coming r (given_read m o x bytes a))
   unfolding MayMove
-  holds_answered bytes session (Err error) a refused behind = stopped error a (Refusal bytes session refused behind)
-  holds_answered bytes session (Ok true) a refused behind = move Ready a tt tt tt
-  holds_answered bytes session (Ok false) a refused behind = here a
+  holds_answered x bytes (Err error) a ready answers = refused x bytes error a ready answers
+  holds_answered x bytes (Ok true) a ready answers = let c : At t = given_read m o x bytes a in next a c _ (gave x bytes a ready) (move Ready c tt tt tt tt)
+  holds_answered x bytes (Ok false) a ready answers = gave x bytes a ready
 
   -- the session is given the bytes that can be read in order
   holds_bytes : (bytes : List ℕ) (a : At t) → bytes ≡ ready_bytes (stream_of a.state.lower o.space) → Leaves a (bytes_given m o.coming o.space bytes a)
-  unfolding move_to state_move lower_move session_read
   holds_bytes [] a ready = here a
-  holds_bytes (x ∷ bytes) a ready =
-      let c : At t = given_read m o x bytes a in
-      leaves_next a c (gave x bytes a ready) (answered_after o.coming (m.reads a.state.lower.session (x ∷ bytes)) c) (holds_answered (x ∷ bytes) a.state.lower.session (m.reads a.state.lower.session (x ∷ bytes)) c refl refl)
+  holds_bytes (x ∷ bytes) a ready = holds_answered x bytes (m.reads a.state.lower.session (x ∷ bytes)) a ready refl
 
   -- bytes of a CRYPTO stream came
   holds_kept : (offset : ℕ) (body : List ℕ) (a : At t) → IsFrameOf o (frames.Crypto offset body) → Leaves a (kept_after m o.coming o.space offset body a)
   unfolding kept_after MayMove
   holds_kept offset body a among =
       let b : At t = move_to (Come o.space offset body) a in
-      leaves_next a b (move (Come o.space offset body) a (refl, among) tt tt) (bytes_given m o.coming o.space (ready_bytes (stream_of b.state.lower o.space)) b) (holds_bytes (ready_bytes (stream_of b.state.lower o.space)) b refl)
+      leaves_next a b (move (Come o.space offset body) a (refl, among) tt tt tt) (bytes_given m o.coming o.space (ready_bytes (stream_of b.state.lower o.space)) b) (holds_bytes (ready_bytes (stream_of b.state.lower o.space)) b refl)
 
   -- the streams are handed a frame, which they take, or refuse
   handed_by : (f : FrameValue) (stop : Option TransportError) (a : At t) → IsFrameOf o f → handed_stop f a.state.lower ≡ stop → Leaves a (refused_after o.coming.time stop (move_to (Hand f) a))
   unfolding MayMove move_to
-  handed_by f None a h is = move (Hand f) a h tt tt
+  handed_by f None a h is = move (Hand f) a h tt tt tt
   handed_by f (Some error) a h is =
       let b : At t = move_to (Hand f) a in
-      next a b _ (move (Hand f) a h tt tt) (stopped error b (Handed f h a.state refl is))
+      next a b _ (move (Hand f) a h tt tt tt) (stopped error b (Handed f h a.state refl is, tt))
 
   holds_handed : (f : FrameValue) (a : At t) → IsFrameOf o f → Leaves a (handed_after o.coming.time f a)
   unfolding handed_after
@@ -337,7 +360,7 @@ module _ {t : Types} (m : Meaning t) (o : OpenPacket) (R : At t → At t → Typ
   -- a server may take the next id of the peer into use behind a NEW_CONNECTION_ID
   switched_by : (new : NewConnectionId) (a : At t) (b : Bool) → IsFrameOf o (frames.NewConnectionId new) → R a (switched_after b a)
   unfolding MayMove
-  switched_by new a true h = move Switch a (new, h) tt tt
+  switched_by new a true h = move Switch a (new, h) tt tt tt
   switched_by new a false h = here a
 
   -- the ids are handed one, which they take, or refuse
@@ -346,10 +369,10 @@ module _ {t : Types} (m : Meaning t) (o : OpenPacket) (R : At t → At t → Typ
   unfolding MayMove move_to
   inserted_by new None switches a h is =
       let b : At t = move_to (Insert new) a in
-      next a b _ (move (Insert new) a h tt tt) (switched_by new b switches h)
+      next a b _ (move (Insert new) a h tt tt tt) (switched_by new b switches h)
   inserted_by new (Some error) switches a h is =
       let b : At t = move_to (Insert new) a in
-      next a b _ (move (Insert new) a h tt tt) (stopped error b (Inserted new h a.state refl is))
+      next a b _ (move (Insert new) a h tt tt tt) (stopped error b (Inserted new h a.state refl is, tt))
 
   holds_inserted : (new : NewConnectionId) (a : At t) → IsFrameOf o (frames.NewConnectionId new) → Leaves a (inserted_after o.coming.time new a)
   unfolding inserted_after
@@ -358,10 +381,10 @@ module _ {t : Types} (m : Meaning t) (o : OpenPacket) (R : At t → At t → Typ
   -- they are handed a RETIRE_CONNECTION_ID, which they take, or refuse
   retired_by : (n : ℕ) (stop : Option TransportError) (a : At t) → IsFrameOf o (frames.RetireConnectionId n) → retire_stop n a.state.lower.ids ≡ stop → Leaves a (refused_after o.coming.time stop (move_to (Retire o.coming.time n) a))
   unfolding MayMove move_to
-  retired_by n None a h is = move (Retire o.coming.time n) a (refl, h) tt tt
+  retired_by n None a h is = move (Retire o.coming.time n) a (refl, h) tt tt tt
   retired_by n (Some error) a h is =
       let b : At t = move_to (Retire o.coming.time n) a in
-      next a b _ (move (Retire o.coming.time n) a (refl, h) tt tt) (stopped error b (Retired n h a.state refl is))
+      next a b _ (move (Retire o.coming.time n) a (refl, h) tt tt tt) (stopped error b (Retired n h a.state refl is, tt))
 
   holds_retired : (n : ℕ) (a : At t) → IsFrameOf o (frames.RetireConnectionId n) → Leaves a (retired_after o.coming.time n a)
   unfolding retired_after
@@ -371,10 +394,11 @@ module _ {t : Types} (m : Meaning t) (o : OpenPacket) (R : At t → At t → Typ
   holds_applied : (f : FrameValue) (a : At t) → (among : IsFrameOf o f) → GoesOn a.state among.0 f → Leaves a (applied_after m o.coming o.space f a)
   unfolding applied_after
   holds_applied (frames.Ack ack) a h goes = holds_acked ack a h
-  holds_applied (frames.Crypto offset body) a h goes = holds_ended (crypto_stop a.state o.space offset body) (kept_after m o.coming o.space offset body) a (λ error stops. Bytes offset body h stops) (λ none. holds_kept offset body a h)
+  holds_applied (frames.Crypto offset body) a h goes = holds_ended (crypto_stop a.state o.space offset body) (kept_after m o.coming o.space offset body) a (λ error stops. (Bytes offset body h stops, tt)) (λ none. holds_kept offset body a h)
   holds_applied frames.HandshakeDone a h goes =
       let done = done_goes a.state.setup.fixed.side o.space (next_number a.state.numbers o.space) a.state.numbers.filter.last h.0 goes in
       holds_confirmed a h done.0 done.1
+  holds_applied (frames.NewToken token) a h goes = holds_token (frames.NewToken token) a h tt
   holds_applied (frames.ConnectionClose code type reason) a h goes = holds_close o.space (frames.ConnectionClose code type reason) (lost.ConnectionClosed (record { error_code = code; frame_type = type; reason = reason })) a h refl
   holds_applied (frames.ApplicationClose code reason) a h goes = holds_close o.space (frames.ApplicationClose code reason) (lost.ApplicationClosed (record { error_code = code; reason = reason })) a h refl
   holds_applied (frames.ResetStream stream code size) a h goes = holds_handed (frames.ResetStream stream code size) a h
@@ -394,7 +418,7 @@ module _ {t : Types} (m : Meaning t) (o : OpenPacket) (R : At t → At t → Typ
   holds_frame : (read : TypedValue) (a : At t) → IsTypedOf o read → Leaves a (frame_after m o.coming o.space read a)
   holds_frame read a among =
       holds_ended (stop_in a.state.setup.fixed.side o.space (next_number a.state.numbers o.space) a.state.numbers.filter.last read.ty read.frame) (applied_after m o.coming o.space read.frame) a
-      (λ error stops. Kind read among stops) (λ none. holds_applied read.frame a (read.ty, among) none)
+      (λ error stops. (Kind read among stops, tt)) (λ none. holds_applied read.frame a (read.ty, among) none)
 
   -- ---- the frames
 
@@ -418,42 +442,42 @@ module _ {t : Types} (m : Meaning t) (o : OpenPacket) (R : At t → At t → Typ
   -- the frames of the packet, from one of them on
   holds_items : (items : List Item) (close : Option ConnectionError) (a : At t) → Within items (items_of o.payload) → IsCloseSoFar close → R a (end_after m o.coming o.space (items_after m o.coming o.space items (Reads close a)))
   holds_items [] close a within closed = holds_end close a closed
-  holds_items (Err fault ∷ items) close a within closed = holds_ended_course items a _ (stopped (encoding_error_at fault.ty) a (Fault fault (within.fault fault refl) refl))
+  holds_items (Err fault ∷ items) close a within closed = holds_ended_course items a _ (stopped (encoding_error_at fault.ty) a (Fault fault (within.fault fault refl) refl, tt))
   holds_items (Ok read ∷ items) close a within closed =
       let behind : Within items (items_of o.payload) = record { reads = λ r among. within.reads r (inr among); fault = λ r ends. within.fault r ends } in
       holds_behind items close a (frame_after m o.coming o.space read a) (holds_frame read a (within.reads read (inl refl))) closed (λ c reason b. holds_items items c b behind reason)
 
   payload_by : (payload : List ℕ) (a : At t) → o.payload ≡ payload → R a (payload_after m o.coming o.space payload a)
   unfolding payload_after
-  payload_by [] a same = stopped _ a (Empty same refl)
+  payload_by [] a same = stopped _ a (Empty same refl, tt)
   payload_by (b ∷ bytes) a same = holds_items (items_of (b ∷ bytes)) None a
       (record { reads = λ r among. subst (λ (p : List ℕ). IsAmong r (items_of p)) (sym same) among; fault = λ r ends. subst (λ (p : List ℕ). EndsWith r (items_of p)) (sym same) ends }) tt
 
   -- its payload
-  pub payload_beside : (a : At t) → R a (payload_after m o.coming o.space o.payload a)
-  payload_beside a = payload_by o.payload a refl
+  pub payload_read : (a : At t) → R a (payload_after m o.coming o.space o.payload a)
+  payload_read a = payload_by o.payload a refl
 
   -- ---- the packet, by its verdict
 
   fixed_by : (a : At t) (b : Bool) → fixes_peer o.space a.state ≡ b → R a (if b then move_to (Fix o.source) a else a)
   unfolding MayMove
-  fixed_by a true h = move (Fix o.source) a refl tt (unknown_peer o.space a.state h)
+  fixed_by a true h = move (Fix o.source) a refl tt tt (unknown_peer o.space a.state h)
   fixed_by a false h = here a
 
-  pub fixed_beside : (a : At t) → R a (fixed_after o.space o.source a)
+  pub fixed_read : (a : At t) → R a (fixed_after o.space o.source a)
   unfolding fixed_after
-  fixed_beside a = fixed_by a (fixes_peer o.space a.state) refl
+  fixed_read a = fixed_by a (fixes_peer o.space a.state) refl
 
   closing_by : (b : At t) (close : Bool) → list_any is_close_item (items_of o.payload) ≡ close → is_closed b.state.life.state ≡ true → R b (if close then move_to PeerClosesToo b else move_to Owe b)
   unfolding MayMove
-  closing_by b true is h = move PeerClosesToo b is tt h
-  closing_by b false is h = move Owe b tt tt (shut_by b.state.life.state h)
+  closing_by b true is h = move PeerClosesToo b is tt tt h
+  closing_by b false is h = move Owe b tt tt tt (shut_by b.state.life.state h)
 
   holds_closing : (a : At t) → verdict.ReadForClose ≡ verdict_of a.state o.space o.source o.token o.number → is_new_in a.state.numbers o.space o.number ≡ true → is_closed a.state.life.state ≡ true → R a (read_for_close o.space o.number o.payload a)
   unfolding read_for_close MayMove move_to state_move life_move
   holds_closing a judged new closed =
       let b : At t = move_to (Enter o.space o.number verdict.ReadForClose) a in
-      next a b _ (move (Enter o.space o.number verdict.ReadForClose) a (refl, record { space = refl; same = refl; judged = judged }) tt (new, refl))
+      next a b _ (move (Enter o.space o.number verdict.ReadForClose) a (refl, record { space = refl; same = refl; judged = judged }) tt tt (new, refl))
       (closing_by b _ refl closed)
 
   -- a server leaves the Initial space with a Handshake packet, or not
@@ -461,7 +485,7 @@ module _ {t : Types} (m : Meaning t) (o : OpenPacket) (R : At t → At t → Typ
   unfolding armed_with MayMove move_to state_move paths_move path_kept is_blocked
   initial_by a true drops =
       let b : At t = move_to (Forget Initial) a in
-      next a b _ (move (Forget Initial) a drops tt tt) (move (Arm (loss_time b.state (is_blocked a.state.paths) o.coming.time)) b refl tt (record { blocked = is_blocked a.state.paths; time = o.coming.time; set = refl }))
+      next a b _ (move (Forget Initial) a drops tt tt tt) (move (Arm (loss_time b.state (is_blocked a.state.paths) o.coming.time)) b refl tt tt (record { blocked = is_blocked a.state.paths; time = o.coming.time; set = refl }))
   initial_by a false drops = here a
 
   holds_initial : (a : At t) → R a (initial_left Server (is_blocked a.state.paths) o.coming.time o.space a)
@@ -473,7 +497,7 @@ module _ {t : Types} (m : Meaning t) (o : OpenPacket) (R : At t → At t → Typ
   unfolding accepted_after MayMove
   holds_accepted e v a judged new enters_v accepts_v opened =
       let b : At t = move_to (Accept o.coming.time o.space o.number e (signs_of o.coming o.spin) v) a in
-      next a b _ (move (Accept o.coming.time o.space o.number e (signs_of o.coming o.spin) v) a (refl, refl, accepts_v, record { space = refl; same = refl; judged = judged }) tt (new, enters_v, opened)) (holds_initial b)
+      next a b _ (move (Accept o.coming.time o.space o.number e (signs_of o.coming o.spin) v) a (refl, refl, accepts_v, record { space = refl; same = refl; judged = judged }) tt tt (new, enters_v, opened)) (holds_initial b)
 
   holds_admitted : (a : At t) → verdict.Admitted ≡ verdict_of a.state o.space o.source o.token o.number → is_new_in a.state.numbers o.space o.number ≡ true → is_open a.state.life.state ≡ true → R a (admitted_after m o.coming o.space o.spin o.source o.number o.payload a)
   unfolding admitted_after
@@ -481,7 +505,7 @@ module _ {t : Types} (m : Meaning t) (o : OpenPacket) (R : At t → At t → Typ
       let e : Bool = list_any is_eliciting_item (items_of o.payload) in
       let b : At t = accepted_after o.coming o.space o.number e o.spin verdict.Admitted a in
       let c : At t = fixed_after o.space o.source b in
-      next a b _ (holds_accepted e verdict.Admitted a judged new refl refl opened) (next b c _ (fixed_beside b) (payload_beside c))
+      next a b _ (holds_accepted e verdict.Admitted a judged new refl refl opened) (next b c _ (fixed_read b) (payload_read c))
 
   verdict_by : (v : Verdict) (a : At t) → v ≡ verdict_of a.state o.space o.source o.token o.number →
       (enters v ≡ true → is_new_in a.state.numbers o.space o.number ≡ true) → (v ≡ verdict.ReadForClose → is_closed a.state.life.state ≡ true) → (accepts v ≡ true → is_open a.state.life.state ≡ true) →
@@ -491,9 +515,11 @@ module _ {t : Types} (m : Meaning t) (o : OpenPacket) (R : At t → At t → Typ
   verdict_by verdict.Failure a judged new closed opened = here a
   verdict_by verdict.BadBits a judged new closed opened = here a
   verdict_by verdict.BadUpdate a judged new closed opened = here a
-  verdict_by verdict.Seen a judged new closed opened = move (Tell (did.Piece (Some o.space) (Some o.number) verdict.Seen)) a (refl, refl, refl, sym judged) tt refl
+  verdict_by verdict.RetryTaken a judged new closed opened = here a
+  verdict_by verdict.Versions a judged new closed opened = here a
+  verdict_by verdict.Seen a judged new closed opened = move (Tell (did.Piece (Some o.space) (Some o.number) verdict.Seen)) a (refl, refl, refl, sym judged) tt tt refl
   verdict_by verdict.ReadForClose a judged new closed opened = holds_closing a judged (new refl) (closed refl)
-  verdict_by verdict.NumberOnly a judged new closed opened = move (Enter o.space o.number verdict.NumberOnly) a (refl, record { space = refl; same = refl; judged = judged }) tt (new refl, refl)
+  verdict_by verdict.NumberOnly a judged new closed opened = move (Enter o.space o.number verdict.NumberOnly) a (refl, record { space = refl; same = refl; judged = judged }) tt tt (new refl, refl)
   verdict_by verdict.AckOnly a judged new closed opened = holds_accepted false verdict.AckOnly a judged (new refl) refl refl (opened refl)
   verdict_by verdict.Admitted a judged new closed opened = holds_admitted a judged (new refl) (opened refl)
 
@@ -510,12 +536,42 @@ module _ {t : Types} (m : Meaning t) (o : OpenPacket) (R : At t → At t → Typ
   unfolding MayMove
   unsealed_by None is a lively = here a
   unsealed_by (Some which) is a lively =
-      move (Unseal o.coming.time o.number which (fresh_by m which a.state) (session_by m which a.state.lower.session)) a (record { same = refl; numbered = refl; named = is; given = refl; behind = refl }) tt lively
+      move (Unseal o.coming.time o.number which (fresh_by m which a.state) (session_by m which a.state.lower.session)) a (record { same = refl; numbered = refl; named = is; given = refl; behind = refl }) tt tt lively
 
-  pub packet_beside : (a : At t) → is_over a.state.life.state ≡ false → R a (packet_received m o a)
-  packet_beside a lively =
+  pub packet_read : (a : At t) → is_over a.state.life.state ≡ false → R a (packet_received m o a)
+  packet_read a lively =
       let b : At t = unsealed_after m o.coming.time o.which o.number a in
       next a b _ (unsealed_by o.which refl a lively) (received_beside b (ap (λ (l : Life). is_over l.state) (unsealed_life m o.coming.time o.number o.which a) ∙ lively))
+
+-- so does what holds of the two by which the session is given bytes, of the two by which recovery is given an ACK, and of each other move that
+-- the packet makes
+module _ {t : Types} (m : Meaning t) (o : OpenPacket) (R : At t → At t → Type 0) (here : (a : At t) → R a a) (next : (a b c : At t) → R a b → R b c → R a c)
+    (move : (x : Move t) (a : At t) → IsInPacket m o x a.state → IsBeside x → MayMove x a.state → R a (move_to x a))
+    (gave : (x : ℕ) (bytes : List ℕ) (a : At t) → x ∷ bytes ≡ ready_bytes (stream_of a.state.lower o.space) → R a (given_read m o x bytes a))
+    (acked : (ack : AckValue) (a : At t) → IsFrameOf o (frames.Ack ack) → R a (given_ack m o ack a)) where
+  found : (x : Move t) (a : At t) → IsInPacket m o x a.state → IsBeside x → IsUnrefused m o x a.state → MayMove x a.state → R a (move_to x a)
+  found x a h beside unrefused may = move x a h beside may
+
+  -- this end closes for the error with which the session refused bytes
+  refused_by : (x : ℕ) (bytes : List ℕ) (error : TransportError) (a : At t) → x ∷ bytes ≡ ready_bytes (stream_of a.state.lower o.space) → m.reads a.state.lower.session (x ∷ bytes) ≡ Err error →
+      R a (stopped_after o.coming.time error (given_read m o x bytes a))
+  unfolding MayMove move_to state_move lower_move session_read
+  refused_by x bytes error a ready refused =
+      let b : At t = given_read m o x bytes a in
+      let c : At t = move_to (Shut o.coming.time (close_for error)) b in
+      let stops : Stops m o b.state error = Refusal (x ∷ bytes) a.state.lower.session refused refl in
+      next a b _ (gave x bytes a ready)
+      (stopped_by R here next o.coming.time error b (λ low. move (Shut o.coming.time (close_for error)) b (record { same = refl; error = error; closes = refl; cause = stops }) tt low)
+      (λ none. move (Give (lost.TransportError error)) c (inr (record { error = error; reason = refl; before = b.state; closed = refl; cause = stops })) tt none))
+
+  pub payload_beside : (a : At t) → R a (payload_after m o.coming o.space o.payload a)
+  payload_beside a = payload_read m o R here next found gave refused_by acked a
+
+  pub fixed_beside : (a : At t) → R a (fixed_after o.space o.source a)
+  fixed_beside a = fixed_read m o R here next found gave refused_by acked a
+
+  pub packet_beside : (a : At t) → is_over a.state.life.state ≡ false → R a (packet_received m o a)
+  packet_beside a lively = packet_read m o R here next found gave refused_by acked a lively
 
 -- so does what holds of the two by which recovery is given an ACK, and of each other move that the packet makes
 module _ {t : Types} (m : Meaning t) (o : OpenPacket) (R : At t → At t → Type 0) (here : (a : At t) → R a a) (next : (a b c : At t) → R a b → R b c → R a c)

@@ -88,6 +88,7 @@ IsGivenTo layer.Recovery (frames.Ack ack) = Unit {0}
 IsGivenTo layer.Life frames.HandshakeDone = Unit {0}
 IsGivenTo layer.Life (frames.ConnectionClose code type reason) = Unit {0}
 IsGivenTo layer.Life (frames.ApplicationClose code reason) = Unit {0}
+IsGivenTo layer.Store (frames.NewToken token) = Unit {0}
 IsGivenTo _ _ = ⊥
 
 module _ {t : Types} where

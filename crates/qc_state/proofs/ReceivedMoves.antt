@@ -18,7 +18,7 @@ use Rattle.qc_state.specs.declared.life.ConnectionError.{ConnectionError}
 use Rattle.qc_state.specs.declared.life.ConnectionError.TheVariants as lost
 use Rattle.qc_state.specs.declared.life.State.TheVariants.{Drained}
 use Rattle.qc_state.specs.Keys.{NewKeys, NoKeys, HandshakeKeys, DataKeys}
-use Rattle.qc_state.specs.Moves.{Move, Give, Forget, Enter, Expect, Fail, Unseal, Accept, Fix, Hear, Ack, Arm, Come, Read, Write, Ready, Token, Learn, Want, Confirm, Establish, Tell, Hand, Insert, Switch, Retire, PeerClosesToo, PeerCloses, Owe, Shut, Raise, accepts}
+use Rattle.qc_state.specs.Moves.{Move, Give, Forget, Enter, Expect, Fail, Renew, Unseal, Accept, Fix, Hear, Ack, Arm, Come, Read, Write, Ready, Token, Learn, Want, Confirm, Establish, Tell, Hand, Insert, Switch, Retire, PeerClosesToo, PeerCloses, Owe, Shut, Raise, accepts}
 use Rattle.qc_state.specs.Paths.{is_blocked}
 use Rattle.qc_state.specs.Progress.{ring_with, keys_behind}
 use Rattle.qc_state.specs.Recovering.{loss_time}
@@ -73,6 +73,7 @@ abbrev pub IsOfPiece : {t : Types} → Move t → Type 0
 IsOfPiece (Forget id) = Unit {0}
 IsOfPiece (Enter id n v) = Unit {0}
 IsOfPiece Fail = Unit {0}
+IsOfPiece (Renew time cid token keys) = keys.sealed ≡ 0
 IsOfPiece (Unseal time n which fresh session) = FreshFits which fresh
 IsOfPiece (Accept time id n e g v) = accepts v ≡ true
 IsOfPiece (Fix cid) = Unit {0}
@@ -125,13 +126,14 @@ in_packet_received x h = piece_received x (ending_piece x h)
 
 -- ---- around the packets that opened
 
--- a deed that tells of a packet whose payload isn't read: it was ignored, its key didn't open it, its reserved bits aren't 0, or it shows an
--- update that its sender wasn't allowed to make
+-- a deed that tells of a packet whose payload isn't read: it was ignored, its key didn't open it, its reserved bits aren't 0, it shows an
+-- update that its sender wasn't allowed to make, or it lists versions without this end's
 abbrev pub IsUnread : Did → Type 0
 IsUnread (did.Piece space number verdict.Ignored) = Unit {0}
 IsUnread (did.Piece space number verdict.Failure) = Unit {0}
 IsUnread (did.Piece space number verdict.BadBits) = Unit {0}
 IsUnread (did.Piece space number verdict.BadUpdate) = Unit {0}
+IsUnread (did.Piece space number verdict.Versions) = Unit {0}
 IsUnread _ = ⊥
 
 -- the close by which this end closes for an error
@@ -143,42 +145,48 @@ close_for error = close.Connection (record { error_code = error.code; frame_type
 abbrev pub IsUnopenedError : TransportError → Type 0
 IsUnopenedError error = (error ≡ violation_at None) ⊎ (error ≡ update_error)
 
--- the reasons for the end that such a packet gives: one of these errors, or more packets didn't open than may
+-- the reasons for the end that such a packet gives: one of these errors, or more packets didn't open than may, or the server speaks no version
+-- that this end does
 abbrev pub IsUnopenedReason : ConnectionError → Type 0
-IsUnopenedReason why = ((error : TransportError) × (why ≡ lost.TransportError error) × IsUnopenedError error) ⊎ (why ≡ lost.TransportError key_limit_error)
+IsUnopenedReason why =
+    ((error : TransportError) × (why ≡ lost.TransportError error) × IsUnopenedError error) ⊎ ((why ≡ lost.TransportError key_limit_error) ⊎ (why ≡ lost.VersionMismatch))
 
--- the moves that a packet makes which came at this time and doesn't open: this end closes for such an error
-abbrev pub IsUnopened : {t : Types} → (time : ℕ) → Move t → Type 0
-IsUnopened time Fail = Unit {0}
-IsUnopened time (Raise to) = to ≡ Drained
-IsUnopened time (Tell d) = IsUnread d
-IsUnopened time (Shut at close) = (at ≡ time) × ((error : TransportError) × (close ≡ close_for error) × IsUnopenedError error)
-IsUnopened time (Give why) = IsUnopenedReason why
-IsUnopened time _ = ⊥
+-- the moves that a packet makes which came at this time and doesn't open: this end closes for such an error, or it is a Retry that is taken, or one
+-- that lists versions; the loss timer is set to what it is to be where the move is made
+abbrev pub IsUnopened : {t : Types} → (time : ℕ) → Move t → View t → Type 0
+IsUnopened time Fail s = Unit {0}
+IsUnopened time (Renew at cid token keys) s = (at ≡ time) × (keys.sealed ≡ 0)
+IsUnopened time (PeerCloses at) s = at ≡ time
+IsUnopened time (Arm at) s = at ≡ loss_time s (is_blocked s.paths) time
+IsUnopened time (Raise to) s = to ≡ Drained
+IsUnopened time (Tell d) s = IsUnread d
+IsUnopened time (Shut at close) s = (at ≡ time) × ((error : TransportError) × (close ≡ close_for error) × IsUnopenedError error)
+IsUnopened time (Give why) s = IsUnopenedReason why
+IsUnopened time _ s = ⊥
 
--- the moves that receiving makes at this time for no packet that opened: the loss timer is set to what it is to be where the move is made
+-- the moves that receiving makes at this time for no packet that opened
 abbrev pub IsOutside : {t : Types} → (time : ℕ) → Move t → View t → Type 0
 IsOutside time (Expect token) s = Unit {0}
 IsOutside time (Hear bytes) s = Unit {0}
-IsOutside time (Arm at) s = at ≡ loss_time s (is_blocked s.paths) time
-IsOutside time x s = IsUnopened time x
+IsOutside time x s = IsUnopened time x s
 
-pub unopened_piece : {t : Types} (time : ℕ) (x : Move t) → IsUnopened time x → IsOfPiece x
-unopened_piece time Fail h = tt
-unopened_piece time (Raise to) h = h
-unopened_piece time (Tell d) h = tt
-unopened_piece time (Shut at close) h = tt
-unopened_piece time (Give why) h = tt
-unopened_piece time _ h = absurd h
+pub unopened_piece : {t : Types} (time : ℕ) (x : Move t) (s : View t) → IsUnopened time x s → IsOfPiece x
+unopened_piece time Fail s h = tt
+unopened_piece time (Renew at cid token keys) s h = h.1
+unopened_piece time (PeerCloses at) s h = tt
+unopened_piece time (Arm at) s h = tt
+unopened_piece time (Raise to) s h = h
+unopened_piece time (Tell d) s h = tt
+unopened_piece time (Shut at close) s h = tt
+unopened_piece time (Give why) s h = tt
+unopened_piece time _ s h = absurd h
 
-pub unopened_outside : {t : Types} (time : ℕ) (x : Move t) (s : View t) → IsUnopened time x → IsOutside time x s
+pub unopened_outside : {t : Types} (time : ℕ) (x : Move t) (s : View t) → IsUnopened time x s → IsOutside time x s
 unopened_outside time (Expect token) s h = tt
 unopened_outside time (Hear bytes) s h = tt
-unopened_outside time (Arm at) s h = absurd h
 unopened_outside time _ s h = h
 
 pub outside_received : {t : Types} (time : ℕ) (x : Move t) (s : View t) → IsOutside time x s → IsReceived x
 outside_received time (Expect token) s h = tt
 outside_received time (Hear bytes) s h = tt
-outside_received time (Arm at) s h = tt
-outside_received time x s h = piece_received x (unopened_piece time x h)
+outside_received time x s h = piece_received x (unopened_piece time x s h)

@@ -28,11 +28,11 @@ one_more next true e = refl
 one_more next false e = cc
 
 pub skip_told : (v : Numbers) (number drawn : ℕ) (filter : Skips) → is_skipped v Data ≡ true → number ≡ number_used v.spaces.application.next v.filter → filter ≡ numbered v.spaces.application.next drawn v.filter →
-    record { spaces = record v.spaces { application = record v.spaces.application { next = number } }; filter = filter } ≡ number_skipped v drawn
+    record { spaces = record v.spaces { application = record v.spaces.application { next = number } }; filter = filter; opened = v.opened } ≡ number_skipped v drawn
 unfolding number_used is_skipped next_number number_skipped used_in
 skip_told v number drawn filter e is_number is_filter =
-    ap (λ (n : ℕ). record { spaces = record v.spaces { application = record v.spaces.application { next = n } }; filter = filter }) (is_number ∙ one_more v.spaces.application.next (v.spaces.application.next == v.filter.skipped) e)
-    ∙ ap (λ (x : Skips). record { spaces = record v.spaces { application = record v.spaces.application { next = v.spaces.application.next + 1 } }; filter = x }) is_filter
+    ap (λ (n : ℕ). record { spaces = record v.spaces { application = record v.spaces.application { next = n } }; filter = filter; opened = v.opened }) (is_number ∙ one_more v.spaces.application.next (v.spaces.application.next == v.filter.skipped) e)
+    ∙ ap (λ (x : Skips). record { spaces = record v.spaces { application = record v.spaces.application { next = v.spaces.application.next + 1 } }; filter = x; opened = v.opened }) is_filter
 
 -- a word was drawn for it
 drawn_by : (s : Stream) (b : Bool) → b ≡ true → (if b then (next_u64 s).1 else s) ≡ behind s

@@ -23,8 +23,8 @@ use Rattle.qc_state.specs.Keys.{epoch_in, ring_of, sets_floor}
 use Rattle.qc_state.specs.Forms.{is_early, number_space}
 use Rattle.qc_state.specs.Headline.{sealed_in, reasons_in, lives_in, entered_number, entered_in, EachNew, came_with, CloseFrom, RisesFrom, Kernel, kernel_of, kernel_after, IsBehind, IsRight, Tells}
 use Rattle.qc_state.specs.Life.{rank_of, is_open, is_closed, is_drained, reason_given, life_raised, life_closed, life_drained, life_established, data_ready, token_learned, token_told, identifiers_wanted, retirement_told, ready_reported, connected_reported, datagram_heard, heard_reported, all_heard_reported, lost_reported, notice_reported, notices_reported, drained_reported}
-use Rattle.qc_state.specs.Moves.{Probe, Move, ClosesOnly, Clock, Ask, Take, Seal, Forget, Enter, Expect, Fail, Accept, Fix, Hear, Ack, Fire, Arm, Pace, Release, Begin, Skip, Come, Read, Write, Ready, Token, Learn, Want, Confirm, Establish, Tell, Hand, Insert, Switch, Retire, Issue, Outlive, Call, Post, PeerClosesToo, PeerCloses, Owe, IsTold, enters, Shut, Raise, Give, Say, ReportReady, ReportConnected, ReportHeard, ReportAllHeard, ReportStream, ReportStreams, ReportLost, ReportNotice, ReportNotices, ReportDrained, state_move, move_to, deeds_move, MayMove, told, arrival_of, numbers_move, life_move, timers_move, Spend, Hold, Finish, Unseal, Discard, Update}
-use Rattle.qc_state.specs.Numbers.{next_number, came_in, is_new_in, number_used, number_skipped, used_in, number_entered, number_accepted, number_acked}
+use Rattle.qc_state.specs.Moves.{Probe, Move, ClosesOnly, Clock, Ask, Take, Seal, Forget, Enter, Expect, Fail, Accept, Fix, Hear, Ack, Fire, Arm, Pace, Release, Begin, Skip, Come, Read, Write, Ready, Token, Learn, Want, Confirm, Establish, Tell, Hand, Insert, Switch, Retire, Issue, Outlive, Call, Post, PeerClosesToo, PeerCloses, Owe, IsTold, enters, Shut, Raise, Give, Say, ReportReady, ReportConnected, ReportHeard, ReportAllHeard, ReportStream, ReportStreams, ReportLost, ReportNotice, ReportNotices, ReportDrained, state_move, move_to, deeds_move, MayMove, told, arrival_of, numbers_move, life_move, timers_move, Spend, Hold, Finish, Unseal, Discard, Update, Renew}
+use Rattle.qc_state.specs.Numbers.{next_number, came_in, is_new_in, number_used, number_skipped, used_in, number_entered, number_accepted, number_acked, space_renewed}
 use Rattle.qc_state.specs.Numbers as numbers
 use Rattle.qc_state.specs.Recovering.{probe_timeout_now}
 use Rattle.qc_state.specs.Setup.{idle_limit_now}
@@ -272,19 +272,19 @@ module _ {t : Types} where
   skip_tells Data s word = record { next = omega arith; came = refl; reason = refl; rank = refl }
 
   -- a new number came in a space and counts there
-  enter_tells : (id space : SpaceId) (s : View t) (n : ℕ) (v : Verdict) (f : SpaceNumbers → SpaceNumbers) → is_new_in s.numbers space n ≡ true → enters v ≡ true →
+  enter_tells : (id space : SpaceId) (s : View t) (n : ℕ) (v : Verdict) (f : SpaceNumbers → SpaceNumbers) (opened : Bool) → is_new_in s.numbers space n ≡ true → enters v ≡ true →
       ((w : SpaceNumbers) → (f w).next ≡ w.next) → ((w : SpaceNumbers) → (f w).came ≡ arrived n w.came) →
-      Tells id (kernel id s) (did.Piece (Some space) (Some n) v ∷ []) (kernel_of id (record s.numbers { spaces = with_space s.numbers.spaces space (f (space_of s.numbers.spaces space)) }) s.life)
+      Tells id (kernel id s) (did.Piece (Some space) (Some n) v ∷ []) (kernel_of id (record s.numbers { spaces = with_space s.numbers.spaces space (f (space_of s.numbers.spaces space)); opened = opened }) s.life)
   unfolding Tells next_number came_in is_new_in
-  enter_tells Initial Initial s n v f new e h c = (rw e new, rw e (record { next = at_least _ _ (h s.numbers.spaces.initial); came = c s.numbers.spaces.initial; reason = refl; rank = refl }))
-  enter_tells Initial Handshake s n v f new e h c = (tt, behind_here _)
-  enter_tells Initial Data s n v f new e h c = (tt, behind_here _)
-  enter_tells Handshake Initial s n v f new e h c = (tt, behind_here _)
-  enter_tells Handshake Handshake s n v f new e h c = (rw e new, rw e (record { next = at_least _ _ (h s.numbers.spaces.handshake); came = c s.numbers.spaces.handshake; reason = refl; rank = refl }))
-  enter_tells Handshake Data s n v f new e h c = (tt, behind_here _)
-  enter_tells Data Initial s n v f new e h c = (tt, behind_here _)
-  enter_tells Data Handshake s n v f new e h c = (tt, behind_here _)
-  enter_tells Data Data s n v f new e h c = (rw e new, rw e (record { next = at_least _ _ (h s.numbers.spaces.application); came = c s.numbers.spaces.application; reason = refl; rank = refl }))
+  enter_tells Initial Initial s n v f opened new e h c = (rw e new, rw e (record { next = at_least _ _ (h s.numbers.spaces.initial); came = c s.numbers.spaces.initial; reason = refl; rank = refl }))
+  enter_tells Initial Handshake s n v f opened new e h c = (tt, behind_here _)
+  enter_tells Initial Data s n v f opened new e h c = (tt, behind_here _)
+  enter_tells Handshake Initial s n v f opened new e h c = (tt, behind_here _)
+  enter_tells Handshake Handshake s n v f opened new e h c = (rw e new, rw e (record { next = at_least _ _ (h s.numbers.spaces.handshake); came = c s.numbers.spaces.handshake; reason = refl; rank = refl }))
+  enter_tells Handshake Data s n v f opened new e h c = (tt, behind_here _)
+  enter_tells Data Initial s n v f opened new e h c = (tt, behind_here _)
+  enter_tells Data Handshake s n v f opened new e h c = (tt, behind_here _)
+  enter_tells Data Data s n v f opened new e h c = (rw e new, rw e (record { next = at_least _ _ (h s.numbers.spaces.application); came = c s.numbers.spaces.application; reason = refl; rank = refl }))
 
   told_tells : (id : SpaceId) (d : Did) (s : View t) → IsTold d → Tells id (kernel id s) (d ∷ []) (kernel id s)
   unfolding Tells
@@ -317,16 +317,17 @@ module _ {t : Types} where
   give_tells id s why h = (h, rw h (behind_here _))
 
   pub move_tells : (id : SpaceId) (x : Move t) (s : View t) → MayMove x s → Tells id (kernel id s) (deeds_move x s) (kernel id (state_move x s))
-  unfolding Tells MayMove deeds_move state_move numbers_move life_move life_raised life_closed life_drained lost_reported heard_reported all_heard_reported notice_reported notices_reported drained_reported life_established data_ready token_learned identifiers_wanted ready_reported connected_reported number_entered number_accepted number_acked numbers.entered_in numbers.accepted_in numbers.acked_in
+  unfolding Tells MayMove deeds_move state_move numbers_move life_move life_raised life_closed life_drained lost_reported heard_reported all_heard_reported notice_reported notices_reported drained_reported life_established data_ready token_learned identifiers_wanted ready_reported connected_reported number_entered number_accepted number_acked space_renewed numbers.entered_in numbers.accepted_in numbers.acked_in
   move_tells id (Clock time) s h = absurd h
   move_tells id (Ask space) s h = behind_here _
   move_tells id (Take space fs) s h = behind_here _
   move_tells id (Forget space) s h = behind_here _
-  move_tells id (Enter space n v) s h = enter_tells id space s n v (λ w. numbers.entered_in n w) h.0 h.1 (λ w. refl) (λ w. refl)
+  move_tells id (Enter space n v) s h = enter_tells id space s n v (λ w. numbers.entered_in n w) s.numbers.opened h.0 h.1 (λ w. refl) (λ w. refl)
   move_tells id (Expect token) s h = behind_here _
   move_tells id Fail s h = behind_here _
+  move_tells id (Renew time cid token keys) s h = (tt, next_same id Initial s (λ w. record w { began = time }) refl refl)
   move_tells id (Unseal time n which fresh session) s h = behind_here _
-  move_tells id (Accept time space n e g v) s h = enter_tells id space s n v (λ w. numbers.accepted_in n w) h.0 h.1 (λ w. refl) (λ w. refl)
+  move_tells id (Accept time space n e g v) s h = enter_tells id space s n v (λ w. numbers.accepted_in n w) true h.0 h.1 (λ w. refl) (λ w. refl)
   move_tells id (Fix cid) s h = behind_here _
   move_tells id (Hear bytes) s h = behind_here _
   move_tells id (Ack space n r) s h = next_same id space s (λ w. numbers.acked_in n w) refl refl
@@ -389,6 +390,7 @@ module _ {t : Types} where
   clock_kept (Enter space n v) s h = refl
   clock_kept (Expect token) s h = refl
   clock_kept Fail s h = refl
+  clock_kept (Renew time cid token keys) s h = refl
   clock_kept (Unseal time n which fresh session) s h = keeping_same (λ (v : Timers). v.greatest) (sets_floor which fresh (ring_of s.keys)) s.timers (probe_timeout_now s «Data») time (λ v probe at. refl)
   clock_kept (Accept time space n e g v) s h =
       holding_clock (timers_accepted s.timers (idle_limit_now s.setup) (probe_timeout_now s space) time) (holds_back s.waiting space (arrived n (came_in s.numbers space)) (arrival_of time n e g)) time

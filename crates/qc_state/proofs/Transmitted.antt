@@ -31,10 +31,10 @@ use Rattle.qc_state.specs.Numbers.{next_number}
 use Rattle.qc_state.specs.Paths.{is_blocked, is_blocked_behind}
 use Rattle.qc_state.specs.Recovering.{loss_time}
 use Rattle.qc_state.specs.Batches.{next_segment}
-use Rattle.qc_state.specs.Sending.{going_tried, Carries, Choice, Closes, MayBegin, MayTransmit, application_close, begun_after, begun_view, close_frame, closing_frame, drops_initial, flown_after, initial_left, is_flown, is_key_used_up, is_used_up, is_token_too_long, kill_in, owes_in, packet_after, packet_size, sealed_in, spared_after, told_close, transmit_after, Sent, Ending, Went, Held, Hushed, Died, ending_after, packets_after, Going, going_from, MayFollow, MayAll, MayEnd, handshake_left, finished_after, gone_after, begun_batch, room_in, room_of, held_after, is_silent, limit_in, paced_until, quiet_by, quiet_of, spent_after, told_sent, Dies, DiesProbing, MayProbe, Probed, is_key_nearly_used_up, probe_begun_after, probe_frames, probe_sealed, probe_size, probed_after}
-use Rattle.qc_state.specs.Stopping.{given_after, key_limit_error, killed_after, stopped_after}
+use Rattle.qc_state.specs.Sending.{going_tried, internal_error, Carries, Choice, Closes, MayBegin, MayTransmit, application_close, begun_after, begun_view, close_frame, closing_frame, drops_initial, flown_after, initial_left, is_flown, is_key_used_up, is_used_up, is_token_too_long, kill_in, owes_in, packet_after, packet_size, sealed_in, spared_after, told_close, transmit_after, Sent, Ending, Went, Held, Hushed, Died, ending_after, packets_after, Going, going_from, MayFollow, MayAll, MayEnd, handshake_left, finished_after, gone_after, begun_batch, room_in, room_of, held_after, is_silent, limit_in, paced_until, quiet_by, quiet_of, spent_after, told_sent, Dies, DiesProbing, MayProbe, Probed, is_key_nearly_used_up, probe_begun_after, probe_frames, probe_sealed, probe_size, probed_after}
+use Rattle.qc_state.specs.Stopping.{given_after, key_limit_error, killed_after, stopped_after, violation_at}
 use Rattle.qc_state.specs.Types.{Types, Meaning}
-use Rattle.qc_state.specs.Updating.{tried_after}
+use Rattle.qc_state.specs.Updating.{tried_after, tried_view}
 use Rattle.qc_state.specs.View.{View, At, at}
 use Rattle.qc_state.proofs.DatagramSteps.{carried_oldest}
 use Rattle.qc_state.proofs.IdSteps.{carried_next}
@@ -48,7 +48,6 @@ use Rattle.qc_state.proofs.Begun.{begun_keys, begun_life, begun_same, holds_begu
 use Rattle.qc_state.proofs.Tried.{holds_tried, tried_same}
 use Rattle.qc_state.proofs.Telling.{is_none_none, low_rank, open_rank}
 use Rattle.qc_state.specs.declared.transmit.Batch.{Batch}
-use Rattle.qc_state.specs.Spaces.{is_space}
 
 -- what this end sends as its close is a close
 application_closes : (id : SpaceId) (code : ℕ) (kept : List ℕ) → is_close (application_close id code kept) ≡ true
@@ -89,13 +88,25 @@ IsPacketMove (Spend tokens) = Unit {0}
 IsPacketMove (Arm at) = Unit {0}
 IsPacketMove _ = ⊥
 
+-- the reasons for which a transmit ends a connection, or closes it: a key, or the packet numbers, are used up, or a token leaves no room
+abbrev pub IsSendingReason : ConnectionError → Type 0
+IsSendingReason why = (why ≡ lost.TransportError key_limit_error) ⊎ ((why ≡ internal_error) ⊎ (why ≡ lost.TransportError (violation_at None)))
+
+-- the one for which a packet can't begin is among them
+kill_reason : (worn used long : Bool) (why : ConnectionError) →
+    (if worn then Some (lost.TransportError key_limit_error) else if used then Some internal_error else if long then Some (lost.TransportError (violation_at None)) else None) ≡ Some why → IsSendingReason why
+kill_reason true used long why h = inl cc
+kill_reason false true long why h = inr (inl cc)
+kill_reason false false true why h = inr (inr cc)
+kill_reason false false false why h = absurd cc
+
 -- the moves that a transmit makes, beside those that take and seal
 abbrev pub IsSending : {t : Types} → Move t → Type 0
 IsSending (Ask id) = Unit {0}
 IsSending (Forget id) = id ≡ Initial
 IsSending (Shut time close) = Unit {0}
 IsSending (Raise to) = to ≡ state.Drained
-IsSending (Give why) = Unit {0}
+IsSending (Give why) = IsSendingReason why
 IsSending (Hold until) = Unit {0}
 IsSending (Finish bytes control) = Unit {0}
 IsSending (Probe time n bytes q) = Unit {0}
@@ -322,10 +333,10 @@ module _ {t : Types} (R : At t → At t → Type 0) (here : (a : At t) → R a a
 -- end and of what spares a key
 module _ {t : Types} (R : At t → At t → Type 0) (here : (a : At t) → R a a) (next : (a b c : At t) → R a b → R b c → R a c)
     (move : (x : Move t) → IsUntold x → (a : At t) → MayMove x a.state → R a (move_to x a)) where
-  given_by : (why : ConnectionError) (a : At t) (b : Bool) → is_none a.state.life.reason ≡ b → R a (if b then move_to (Give why) a else a)
+  given_by : (why : ConnectionError) (a : At t) (b : Bool) → IsSendingReason why → is_none a.state.life.reason ≡ b → R a (if b then move_to (Give why) a else a)
   unfolding MayMove
-  given_by why a true h = move (Give why) tt a (is_none_none a.state.life.reason h)
-  given_by why a false h = here a
+  given_by why a true known h = move (Give why) known a (is_none_none a.state.life.reason h)
+  given_by why a false known h = here a
 
   -- the Initial space is left, or not
   left_by : (time : ℕ) (a : At t) (b : Bool) → R a (if b then armed_with false time (move_to (Forget Initial) a) else a)
@@ -339,22 +350,22 @@ module _ {t : Types} (R : At t → At t → Type 0) (here : (a : At t) → R a a
   left time false a = here a
 
   -- this end closes behind a packet, or not
-  stopped_by : (time : ℕ) (close : Close) (why : ConnectionError) (a : At t) (b : Bool) → is_open a.state.life.state ≡ b → R a (if b then given_after why (move_to (Shut time close) a) else a)
+  stopped_by : (time : ℕ) (close : Close) (why : ConnectionError) (a : At t) (b : Bool) → IsSendingReason why → is_open a.state.life.state ≡ b → R a (if b then given_after why (move_to (Shut time close) a) else a)
   unfolding given_after MayMove
-  stopped_by time close why a true h =
+  stopped_by time close why a true known h =
       let b : At t = move_to (Shut time close) a in
-      next a b _ (move (Shut time close) tt a (open_rank a.state.life.state h)) (given_by why b _ refl)
-  stopped_by time close why a false h = here a
+      next a b _ (move (Shut time close) tt a (open_rank a.state.life.state h)) (given_by why b _ known refl)
+  stopped_by time close why a false known h = here a
 
   pub holds_spared : (time : ℕ) (nearly : Bool) (a : At t) → R a (spared_after time nearly a)
   unfolding spared_after stopped_after
-  holds_spared time true a = stopped_by time _ (lost.TransportError key_limit_error) a _ refl
+  holds_spared time true a = stopped_by time _ (lost.TransportError key_limit_error) a _ (inl refl) refl
   holds_spared time false a = here a
 
   -- the connection ends
-  killed : (why : ConnectionError) (a : At t) → is_drained a.state.life.state ≡ false → R a (killed_after why a)
+  killed : (why : ConnectionError) (a : At t) → IsSendingReason why → is_drained a.state.life.state ≡ false → R a (killed_after why a)
   unfolding killed_after given_after MayMove
-  killed why a h = next a (move_to (Raise state.Drained) a) _ (move (Raise state.Drained) refl a (low_rank a.state.life.state h)) (given_by why (move_to (Raise state.Drained) a) _ refl)
+  killed why a known h = next a (move_to (Raise state.Drained) a) _ (move (Raise state.Drained) refl a (low_rank a.state.life.state h)) (given_by why (move_to (Raise state.Drained) a) _ known refl)
 
   -- the pacer holds a datagram back
   held_by_pacer : (m : Meaning t) (time : ℕ) (b : Batch) (a : At t) → is_drained a.state.life.state ≡ false → R a (held_after m time Pacing b a)
@@ -405,6 +416,12 @@ module _ {t : Types} where
   dies_by : (m : Meaning t) (time : ℕ) (f : Form) (why : ConnectionError) (b : Batch) (a : At t) → Dies m time a.state b f why ⊎ DiesProbing m time a.state b f why → is_drained a.state.life.state ≡ false
   dies_by m time f why b a (inl dies) = dies.turn.alive
   dies_by m time f why b a (inr dies) = probe_alive m time b a dies.quiet dies.size dies.may
+
+  -- and it ends for one of the reasons for which a transmit does
+  dies_for : (m : Meaning t) (time : ℕ) (f : Form) (why : ConnectionError) (b : Batch) (s : View t) → Dies m time s b f why ⊎ DiesProbing m time s b f why → IsSendingReason why
+  unfolding kill_in
+  dies_for m time f why b s (inl dies) = kill_reason (is_key_used_up s f) (is_used_up s (number_space f)) (is_token_too_long b s f) why dies.kill
+  dies_for m time f why b s (inr dies) = kill_reason (is_key_used_up s f) (is_used_up s (number_space f)) (is_token_too_long b s f) why dies.kill
 
   dies_alive : (m : Meaning t) (time : ℕ) (f : Form) (why : ConnectionError) (b : Batch) (a : At t) → MayEnd m time (Died f why) a.state b → is_drained (tried_after m f a).state.life.state ≡ false
   dies_alive m time f why b a may =
@@ -472,7 +489,7 @@ module _ {t : Types} (m : Meaning t) (R : At t → At t → Type 0) (here : (a :
       let d : At t = tried_after m f a in
       let c : At t = killed_after why d in
       next a d _ (tried f a)
-      (next d c _ (killed R here next move why d (dies_alive m time f why b a may)) (move (Say Killed) tt c tt))
+      (next d c _ (killed R here next move why d (dies_for m time f why b (tried_view m a.state f) may) (dies_alive m time f why b a may)) (move (Say Killed) tt c tt))
 
 -- and with one
 module _ {t : Types} (m : Meaning t) (R : At t → At t → Type 0) (here : (a : At t) → R a a) (next : (a b c : At t) → R a b → R b c → R a c)

@@ -1,5 +1,5 @@
 -- A packet that is about to begin: what the update that is tried for it makes of a connection, and what it leaves.
-use Rattle.std.proofs.Common.{◌≡◌, List, [], refl, ap, sym, ◌∙◌, Bool, true, false, Option, Some, None, if◌then◌else◌}
+use Rattle.std.proofs.Common.{◌≡◌, List, [], refl, ap, sym, Bool, true, false, Option, Some, None, if◌then◌else◌}
 use Rattle.qc_state.specs.declared.deeds.Did.{Did}
 use Rattle.qc_state.specs.declared.form.Form.{Form}
 use Rattle.qc_state.specs.declared.form.Form.TheVariants as form

@@ -78,6 +78,7 @@ module _ {t : Types} where
     numbers = record {
       spaces = record { initial = no_numbers time; handshake = no_numbers time; application = no_numbers time };
       filter = first_skips (word (filter_words transport.allow_spin words));
+      opened = false;
     };
     keys = first_keys keys;
     life = record { state = Handshake; reason = None; ready = false; connected = false; heard = []; lost = None; notices = []; drained = false; close = None };
@@ -92,7 +93,7 @@ module _ {t : Types} where
       close_owed = false;
       bundled = None;
     };
-    setup = record { fixed = fixed; peer = None; token = None; initial_token = token; random = words_left transport.allow_spin words };
+    setup = record { fixed = fixed; peer = None; token = None; initial_token = token; retry_cid = None; random = words_left transport.allow_spin words };
     lower = record {
       session = session;
       ids = first_ids paths.current.remote_cid (first_local_cids (length fixed.local_cid) fixed.cid_lifetime time fixed.issued);

@@ -69,6 +69,10 @@ module _ {H P : Type 0} where
   ring_used n None = None
   ring_used n (Some k) = Some (record k { ring = keyed_sealed k.ring n })
 
+  -- these keys stand in the place of those of the Initial space, where it has keys still; nothing was sealed under them (RFC 9001, section 5.2)
+  unfoldable pub initial_renewed : KeyGroup H P → SpaceKeys H P → KeyGroup H P
+  initial_renewed v keys = record v { initial = option_map (λ (k : SpaceKeys H P). keys) v.initial }
+
   -- a packet of this form and number was sealed; no key for 0-RTT is there so far
   unfoldable pub key_used : KeyGroup H P → Form → ℕ → KeyGroup H P
   key_used v form.Initial n = record v { initial = count_one v.initial }

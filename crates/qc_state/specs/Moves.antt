@@ -1,10 +1,12 @@
 -- The small moves that every step is made of, and what each makes of each group: one table a group, which says
 -- "everything else stays" in its last line.
-use Rattle.std.specs.Prelude.{◌≡◌, ℕ, ◌<◌, ◌≤◌, nat_le, Bool, true, false, if◌then◌else◌, List, [], ◌∷◌, ◌++◌, Option, Some, None}
+use Rattle.std.specs.Prelude.{◌≡◌, ℕ, ◌<◌, ◌≤◌, nat_le, Bool, true, false, ◌&&◌, not, if◌then◌else◌, List, [], ◌∷◌, ◌++◌, Option, Some, None, is_none}
 use Rattle.std.specs.List.{list_any}
 use Rattle.rand_core.specs.Stream.{Stream}
 use Rattle.qc_base.specs.declared.ecn.EcnCodepoint.{EcnCodepoint}
 use Rattle.qc_base.specs.declared.ecn.EcnCodepoint.TheVariants.{Ce}
+use Rattle.qc_base.specs.declared.side.Side.{Side}
+use Rattle.qc_base.specs.declared.side.Side.TheVariants.{Client, Server}
 use Rattle.qc_base.specs.declared.side.SpaceId.{SpaceId}
 use Rattle.qc_base.specs.declared.side.SpaceId.TheVariants.{Initial, Handshake, «Data»}
 use Rattle.qc_frame.specs.Frame.{FrameValue}
@@ -15,6 +17,7 @@ use Rattle.qc_state.specs.declared.numbers.Numbers.{Numbers}
 use Rattle.qc_rings.specs.declared.which.Which.{Which}
 use Rattle.qc_state.specs.declared.keys.Fresh.{Fresh}
 use Rattle.qc_state.specs.declared.keys.KeyGroup.{KeyGroup}
+use Rattle.qc_state.specs.declared.keys.SpaceKeys.{SpaceKeys}
 use Rattle.qc_state.specs.declared.life.Close.{Close}
 use Rattle.qc_state.specs.declared.life.Life.{Life}
 use Rattle.qc_state.specs.declared.life.State.{State}
@@ -48,17 +51,17 @@ use Rattle.qc_recovery.specs.Steps.{After, FiredAfter, path_dropped}
 use Rattle.qc_recovery.specs.declared.path.PathData.{PathData}
 use Rattle.qc_state.specs.Acks.{is_ack}
 use Rattle.qc_state.specs.Draws.{word}
-use Rattle.qc_state.specs.Life.{rank_of, is_open, is_over, is_closed, is_drained, reason_given, life_raised, life_closed, life_drained, life_established, data_ready, token_learned, identifiers_wanted, retirement_told, token_told, ready_reported, connected_reported, datagram_heard, more_heard, heard_reported, all_heard_reported, lost_reported, notice_reported, notices_reported, drained_reported, is_established}
-use Rattle.qc_state.specs.Numbers.{next_number, received_number, number_used, number_skipped, is_skipped, is_new_in, came_in, number_entered, number_accepted, number_acked}
+use Rattle.qc_state.specs.Life.{rank_of, is_open, is_over, is_closed, is_drained, reason_given, life_raised, life_closed, life_drained, life_established, data_ready, token_learned, identifiers_wanted, retirement_told, token_told, ready_reported, connected_reported, datagram_heard, more_heard, heard_reported, all_heard_reported, lost_reported, notice_reported, notices_reported, drained_reported, is_established, is_handshake}
+use Rattle.qc_state.specs.Numbers.{next_number, received_number, number_used, number_skipped, is_skipped, is_new_in, came_in, number_entered, number_accepted, number_acked, space_renewed}
 use Rattle.qc_state.specs.Forms.{is_early, number_space}
-use Rattle.qc_state.specs.Keys.{NewKeys, NoKeys, HandshakeKeys, DataKeys, epoch_in, has_keys_for, key_acked, key_discarded, key_opened, key_used, failure_counted, keys_given, keys_dropped, ring_of, sets_floor, key_updated, ring_may_update}
+use Rattle.qc_state.specs.Keys.{NewKeys, NoKeys, HandshakeKeys, DataKeys, epoch_in, has_keys_for, key_acked, key_discarded, key_opened, key_used, failure_counted, keys_given, keys_dropped, ring_of, sets_floor, key_updated, ring_may_update, initial_renewed}
 use Rattle.qc_state.specs.Flight.{flown_packet}
 use Rattle.qc_state.specs.Ids.{active_limit, fired_ids, lost_ids}
 use Rattle.qc_state.specs.Lower.{bytes_came, frames_sealed, ids_stepped, session_asked, session_read, session_wrote, flight_dropped, packet_flown, packets_settled, timer_fired, streams_stepped, datagrams_stepped, frame_handed, limits_learned, streams_closed, event_told, events_told}
 use Rattle.qc_state.specs.Offers.{packet_begun}
 use Rattle.qc_state.specs.Paths.{is_blocked, path_capped, path_probed, path_quiet, path_sent, path_received, path_accepted, path_kept, path_named, path_spun, peer_fixed}
 use Rattle.qc_state.specs.Recovering.{loss_time, probe_timeout_now}
-use Rattle.qc_state.specs.Setup.{idle_limit_now, packet_drawn, parameters_known, peer_delay, token_expected, word_drawn}
+use Rattle.qc_state.specs.Setup.{idle_limit_now, packet_drawn, parameters_known, peer_delay, retry_taken, token_expected, word_drawn}
 use Rattle.qc_state.specs.Spaces.{is_space}
 use Rattle.qc_state.specs.Streams.{is_given_to_streams}
 use Rattle.qc_state.specs.StreamFrames.{acked_steps, fired_steps, lost_steps, sealed_steps}
@@ -69,7 +72,7 @@ use Rattle.qc_state.specs.Datagrams.{sealed_datagrams, shrunk_by, tells_datagram
 use Rattle.qc_state.specs.Timers.{timers_sealed, timers_acking, timers_discarded, timers_keeping, timers_stopped, timers_closing, timers_accepted, timers_holding, timers_paced, timers_held, timers_released, timers_issued, timers_outlived, timers_armed, clock_set}
 use Rattle.qc_state.specs.Types.{Types}
 use Rattle.qc_state.specs.View.{View, At, at}
-use Rattle.qc_state.specs.Waiting.{ping_asked, done_asked, waiting_without, close_begun, packet_told, packet_came, packets_acked, packets_lost, fired_in, crypto_written, space_left, holds_back, ack_released, bundle_next}
+use Rattle.qc_state.specs.Waiting.{ping_asked, done_asked, waiting_without, close_begun, packet_told, packet_came, packets_acked, packets_lost, fired_in, crypto_written, space_left, hello_again, holds_back, ack_released, bundle_next}
 
 -- whether a frame closes the connection (RFC 9000, section 19.19)
 abbrev pub is_close : FrameValue → Bool
@@ -86,6 +89,11 @@ tells_congestion _ = false
 abbrev pub arrival_of : (time number : ℕ) → (eliciting : Bool) → Signs → Arrival
 arrival_of time n eliciting signs = record { number = n; at = time; ack_eliciting = eliciting; ce = tells_congestion signs.mark }
 
+-- this end is the client
+abbrev pub is_client : Side → Bool
+is_client Client = true
+is_client Server = false
+
 -- from the rise to Closed on, a packet holds a close
 abbrev pub ClosesOnly : ℕ → List FrameValue → Type 0
 ClosesOnly rank fs = 2 ≤ rank → list_any is_close fs ≡ true
@@ -101,6 +109,8 @@ enters verdict.ReadForClose = true
 enters verdict.NumberOnly = true
 enters verdict.AckOnly = true
 enters verdict.Admitted = true
+enters verdict.RetryTaken = false
+enters verdict.Versions = false
 
 -- whether a packet with this verdict is to be acknowledged from then on
 abbrev pub accepts : Verdict → Bool
@@ -164,6 +174,7 @@ pub data Move (t : Types) : Type 0 where
   Forget : (id : SpaceId) → Move t  -- the keys of a space are dropped
   Expect : (token : List ℕ) → Move t  -- a server's first packet came
   Enter : (id : SpaceId) → (number : ℕ) → (verdict : Verdict) → Move t  -- a packet came whose number counts, and whose frames don't
+  Renew : (time : ℕ) → (cid token : List ℕ) → (keys : SpaceKeys t.H t.P) → Move t  -- a Retry with this source id and this token was taken; the session gave these keys of that id
   Fail : Move t  -- a packet didn't open
   Unseal : (time number : ℕ) → (which : Which) → (fresh : Option (Fresh t.P)) → (session : t.S) → Move t  -- a 1-RTT packet of this number was opened by these keys of the ring; as the next ones begin a new epoch, the session gave what that takes with it
   Update : (fresh : Option (Fresh t.P)) → (session : t.S) → Move t  -- this end begins a new epoch of its 1-RTT keys, for which the session gave what that takes with it
@@ -225,6 +236,7 @@ module _ {t : Types} where
   numbers_move (Enter id n v) s = number_entered s.numbers id n
   numbers_move (Accept time id n e g v) s = number_accepted s.numbers id n
   numbers_move (Ack id n r) s = number_acked s.numbers id n
+  numbers_move (Renew time cid token keys) s = space_renewed s.numbers time
   numbers_move _ s = s.numbers
 
   unfoldable pub keys_move : Move t → View t → KeyGroup t.H t.P
@@ -236,6 +248,7 @@ module _ {t : Types} where
   keys_move (Update fresh session) s = key_updated s.keys fresh
   keys_move Discard s = key_discarded s.keys
   keys_move (Write bytes keys session) s = keys_given s.keys keys
+  keys_move (Renew time cid token keys) s = initial_renewed s.keys keys
   keys_move _ s = s.keys
 
   unfoldable pub life_move : Move t → View t → Life
@@ -268,6 +281,7 @@ module _ {t : Types} where
   paths_move (Spend tokens) s = path_kept s.paths (record s.paths.current.kept { pacing = tokens })
   paths_move (Finish bytes control) s = path_sent (path_kept s.paths (record s.paths.current.kept { congestion = control })) bytes
   paths_move (Fix cid) s = peer_fixed s.paths cid
+  paths_move (Renew time cid token keys) s = path_named s.paths cid
   paths_move (Insert new) s = path_named s.paths (active_of (ids.after_step (ids.NewCame new) s.lower.ids).remote)
   paths_move Switch s = path_named s.paths (active_of (ids.after_step ids.Switched s.lower.ids).remote)
   paths_move (Learn parameters) s = path_named (path_capped s.paths parameters) (active_of (limits_learned parameters s.lower).ids.remote)
@@ -308,6 +322,7 @@ module _ {t : Types} where
   waiting_move (Seal time form n size fs) s =
       bundle_next (packet_told s.waiting (is_space (number_space form) s.keys.highest)) fs (next_bundle time (estimate s.paths.current.kept.rtt) (peer_delay s.setup.peer))
   waiting_move (Forget id) s = space_left s.waiting id
+  waiting_move (Renew time cid token keys) s = hello_again s.waiting
   waiting_move (Accept time id n e g v) s = packet_came s.waiting id (arrived n (came_in s.numbers id)) (arrival_of time n e g) g.mark
   waiting_move (Write bytes keys session) s = crypto_written s.waiting s.keys.highest bytes
   waiting_move Confirm s = done_asked s.waiting
@@ -320,6 +335,7 @@ module _ {t : Types} where
 
   unfoldable pub setup_move : Move t → View t → Setup Stream
   setup_move (Expect token) s = token_expected s.setup token
+  setup_move (Renew time cid token keys) s = retry_taken s.setup cid token
   setup_move (Learn parameters) s = parameters_known s.setup parameters
   setup_move Skip s = word_drawn s.setup
   setup_move (Seal time form n size fs) s = packet_drawn s.setup form
@@ -334,6 +350,7 @@ module _ {t : Types} where
   lower_move (Take id fs) s = frames_sealed fs s.lower
   lower_move (Begin id opens) s = (packet_begun id opens s).lower
   lower_move (Forget id) s = flight_dropped s.lower id
+  lower_move (Renew time cid token keys) s = ids_stepped (ids.Renamed cid ∷ []) (flight_dropped s.lower Initial)
   lower_move (Ack id n r) s = datagrams_stepped (shrunk_steps r.path s) (ids_stepped (lost_ids r.lost) (streams_stepped (acked_steps r.acked ++ lost_steps r.lost) (packets_settled s.lower r)))
   lower_move (Fire r) s = datagrams_stepped (shrunk_steps r.path s) (ids_stepped (fired_ids r.fired) (streams_stepped (fired_steps r.fired) (timer_fired s.lower r)))
   lower_move (Fix cid) s = ids_stepped (ids.Renamed cid ∷ []) s.lower
@@ -364,6 +381,7 @@ module _ {t : Types} where
   deeds_move (Seal time form n size fs) s = did.Sealed (number_space form) n (epoch_in s.keys form) (is_early form) fs ∷ []
   deeds_move (Enter id n v) s = did.Piece (Some id) (Some n) v ∷ []
   deeds_move (Accept time id n e g v) s = did.Piece (Some id) (Some n) v ∷ []
+  deeds_move (Renew time cid token keys) s = did.Piece None None verdict.RetryTaken ∷ []
   deeds_move Establish s = did.Rose 1 ∷ []
   deeds_move (Tell d) s = d ∷ []
   deeds_move (Hand frame) s = told_to_streams frame
@@ -395,6 +413,11 @@ module _ {t : Types} where
     pub time : ℕ
     pub set : due ≡ loss_time s blocked time
 
+  -- a client that the server hasn't answered in its handshake: no packet of the server's was accepted, so that it hasn't chosen its id, and no
+  -- Retry was taken (RFC 9000, sections 6.2 and 17.2.5.2)
+  unfoldable pub is_unanswered : View t → Bool
+  is_unanswered s = is_client s.setup.fixed.side && (is_handshake s.life.state && (not s.numbers.opened && (is_none s.paths.peer_cid && is_none s.setup.retry_cid)))
+
   -- where a move may be made once a call has begun, for which the time was told
   unfoldable pub MayMove : Move t → View t → Type 0
   MayMove (Clock time) s = ⊥
@@ -404,6 +427,7 @@ module _ {t : Types} where
   MayMove (Accept time id n e g v) s = (is_new_in s.numbers id n ≡ true) × (enters v ≡ true) × (is_open s.life.state ≡ true)
   MayMove (Enter id n v) s = (is_new_in s.numbers id n ≡ true) × (enters v ≡ true)
   MayMove (Fix cid) s = s.paths.peer_cid ≡ None
+  MayMove (Renew time cid token keys) s = is_unanswered s ≡ true
   MayMove (Arm due) s = IsArmed due s
   MayMove (Write bytes keys session) s = AreNext keys s.keys.highest
   MayMove (Unseal time n which fresh session) s = is_over s.life.state ≡ false

@@ -1,7 +1,7 @@
 -- The packet numbers of a connection (RFC 9000, 12.3).
-use Rattle.std.specs.Prelude.{ℕ, ◌+◌, min, max, Bool, ◌&&◌, ◌==◌, if◌then◌else◌}
+use Rattle.std.specs.Prelude.{ℕ, ◌+◌, min, max, Bool, true, ◌&&◌, ◌==◌, if◌then◌else◌}
 use Rattle.qc_base.specs.declared.side.SpaceId.{SpaceId}
-use Rattle.qc_base.specs.declared.side.SpaceId.TheVariants.{«Data»}
+use Rattle.qc_base.specs.declared.side.SpaceId.TheVariants.{Initial, «Data»}
 use Rattle.qc_path.specs.Arrived.{Window, nothing_came, is_new, arrived}
 use Rattle.qc_path.specs.Filter.{numbered}
 use Rattle.qc_state.specs.declared.numbers.Numbers.{Numbers}
@@ -46,6 +46,7 @@ unfoldable pub number_skipped : Numbers → (word : ℕ) → Numbers
 number_skipped v word = record {
   spaces = with_space v.spaces «Data» (used_in (next_number v «Data») (space_of v.spaces «Data»));
   filter = numbered (next_number v «Data») word v.filter;
+  opened = v.opened;
 }
 
 -- the greatest number of the packets that were accepted in the space, 0 before the first
@@ -75,7 +76,11 @@ accepted_in n w = record w { came = arrived n w.came; rx = max w.rx n }
 
 -- a packet with this number came in the space and was accepted
 unfoldable pub number_accepted : Numbers → SpaceId → ℕ → Numbers
-number_accepted v id n = record v { spaces = with_space v.spaces id (accepted_in n (space_of v.spaces id)) }
+number_accepted v id n = record v { spaces = with_space v.spaces id (accepted_in n (space_of v.spaces id)); opened = true }
+
+-- The Initial space begins anew at a time, and its numbers go on (RFC 9000, section 17.2.5.3). Nothing came in it so far.
+unfoldable pub space_renewed : Numbers → (time : ℕ) → Numbers
+space_renewed v time = record v { spaces = with_space v.spaces Initial (record (space_of v.spaces Initial) { began = time }) }
 
 -- the peer acknowledged packets up to this number
 unfoldable pub acked_in : ℕ → SpaceNumbers → SpaceNumbers

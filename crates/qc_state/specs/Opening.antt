@@ -1,5 +1,5 @@
 -- Taking the protection off a packet that came (RFC 9001, sections 5.3, 5.4 and 5.5). Initial, Handshake and 1-RTT packets are
--- opened, those of the other forms are not taken so far. A 1-RTT packet names its keys by its key phase and number: those of this end's epoch,
+-- opened, 0-RTT packets are not taken so far, and those without a number have no protection. A 1-RTT packet names its keys by its key phase and number: those of this end's epoch,
 -- those of the one before while they are kept, or those of the next one (sections 6.3 and 6.5).
 use Rattle.std.specs.Prelude.{ℕ, ◌+◌, ◌==◌, Bool, false, nat_lt, if◌then◌else◌, List, [], length, take, drop, Option, None, Some}
 use Rattle.qc_base.specs.Mask.{first_byte}
@@ -28,7 +28,7 @@ use Rattle.qc_state.specs.Numbers.{received_number}
 use Rattle.qc_state.specs.Types.{Types, Meaning}
 use Rattle.qc_state.specs.View.{View}
 
--- the form of a packet with this header, if it is one that is taken so far
+-- the form of a packet with this header, if it is one that is opened so far
 abbrev pub opened_form : ProtectedHeader → Option Form
 opened_form (Initial dst_cid src_cid token_start token_len version) = Some form.Initial
 opened_form (Long long.Handshake dst_cid src_cid version) = Some form.Handshake

@@ -23,6 +23,12 @@ abbrev pub names_id : Option (List ℕ) → List ℕ → Bool
 names_id None id = false
 names_id (Some named) id = pointwise nat_eq named id
 
+-- an id that may be named is this one, which there may be
+abbrev pub same_named : Option (List ℕ) → Option (List ℕ) → Bool
+same_named None cid = is_none cid
+same_named (Some named) None = false
+same_named (Some named) (Some cid) = pointwise nat_eq named cid
+
 -- the handshake is over behind a Handshake packet
 abbrev pub is_end : SpaceId → Bool → Bool
 is_end Initial handshaking = false
@@ -76,9 +82,9 @@ module _ {t : Types} where
   written_after m a = writes_after (m.left a.state.lower.session) m a
 
   -- the ids that the peer's parameters name are those of this connection: the source id of its first packet; and those of a
-  -- server name the destination id of this end's first packet, and none of a Retry (RFC 9000, section 7.3)
+  -- server name the destination id of this end's first packet, and the source id of the Retry that was taken, if one was (RFC 9000, section 7.3)
   abbrev pub ids_fit_for : Side → View t → TransportParameters → Bool
-  ids_fit_for Client s p = names_id p.initial_src_cid (peer_id s.paths) && (names_id p.original_dst_cid s.setup.fixed.first_cid && is_none p.retry_src_cid)
+  ids_fit_for Client s p = names_id p.initial_src_cid (peer_id s.paths) && (names_id p.original_dst_cid s.setup.fixed.first_cid && same_named p.retry_src_cid s.setup.retry_cid)
   ids_fit_for Server s p = names_id p.initial_src_cid (peer_id s.paths)
 
   -- the ids in the transport parameters are those of the handshake, for this end (RFC 9000, section 7.3)

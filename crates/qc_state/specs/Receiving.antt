@@ -1,6 +1,6 @@
 -- What a datagram does: its packets one after the other, each by its verdict (RFC 9000, sections 5.2, 7.2, 10.2, 12.2 to
 -- 12.4 and 13.1).
-use Rattle.std.specs.Prelude.{ℕ, ◌+◌, ◌-◌, ◌^◌, Bool, true, false, ◌&&◌, ◌||◌, not, nat_eq, nat_lt, nat_le, is_ok, is_none, is_some, if◌then◌else◌, List, [], ◌∷◌, length, Option, Some, None, Result, Ok, Err}
+use Rattle.std.specs.Prelude.{ℕ, ◌+◌, ◌-◌, ◌^◌, Bool, true, false, ◌&&◌, ◌||◌, not, nat_eq, nat_lt, nat_le, is_ok, is_none, is_some, if◌then◌else◌, List, [], ◌∷◌, length, drop, Option, Some, None, Result, Ok, Err}
 use Rattle.std.specs.List.{list_any}
 use Rattle.std.specs.Cmp.Lexicographic.{pointwise}
 use Rattle.std.specs.declared.net.SocketAddr.{SocketAddr}
@@ -34,11 +34,11 @@ use Rattle.qc_state.specs.declared.opening.Signs.{Signs}
 use Rattle.qc_state.specs.declared.transmit.TheConstants.{DATAGRAM_SIZE}
 use Rattle.qc_state.specs.declared.opening.Opening.TheVariants.{Unreadable, Unopened, Reserved, Untimely, Opened}
 use Rattle.qc_state.specs.Acks.{acknowledges_any}
-use Rattle.qc_state.specs.Keys.{fails_too_often}
+use Rattle.qc_state.specs.Keys.{fails_too_often, new_keys}
 use Rattle.qc_state.specs.Life.{is_open, is_over, is_handshake, is_established}
 use Rattle.qc_state.specs.Ids.{insert_stop, retire_stop, switches_for}
 use Rattle.qc_state.specs.Lower.{handed_stop, ready_bytes, stream_of}
-use Rattle.qc_state.specs.Moves.{is_close, Forget, Expect, Enter, Fail, Accept, Fix, Hand, Hear, Insert, Retire, Switch, Ack, Come, Read, Ready, Tell, PeerClosesToo, PeerCloses, Owe, move_to, armed_after}
+use Rattle.qc_state.specs.Moves.{is_close, Forget, Expect, Enter, Fail, Renew, Accept, Fix, Hand, Hear, Insert, Retire, Switch, Ack, Come, Read, Ready, Tell, PeerClosesToo, PeerCloses, Owe, move_to, armed_after}
 use Rattle.qc_state.specs.Numbers.{next_number}
 use Rattle.qc_state.specs.Opening.{opening_of}
 use Rattle.qc_recovery.specs.Steps.{After}
@@ -50,7 +50,7 @@ use Rattle.qc_state.specs.Setup.{is_first_awaited}
 use Rattle.qc_state.specs.Stopping.{buffer_error, encoding_error_at, given_after, internal_error_at, key_limit_error, killed_after, stopped_after, update_error, violation_at}
 use Rattle.qc_state.specs.Updating.{unsealed_after}
 use Rattle.qc_state.specs.Types.{Types, Meaning}
-use Rattle.qc_state.specs.Verdicts.{verdict_of}
+use Rattle.qc_state.specs.Verdicts.{ids_end, retry_token, unnumbered_verdict, verdict_of}
 use Rattle.qc_state.specs.View.{View, At}
 
 -- The error with which a frame of this type stops its packet by its kind, if it does, where this end's next number is `next`:
@@ -70,6 +70,13 @@ abbrev pub done_stop : Side → Option TransportError
 done_stop Client = None
 done_stop Server = Some (violation_at None)
 
+-- a NEW_TOKEN stops its packet at a client where its token has no bytes, and always at a server, which doesn't expect one (RFC 9000, section
+-- 19.7)
+abbrev pub token_stop : Side → (token : List ℕ) → Option TransportError
+token_stop Client [] = Some (encoding_error_at None)
+token_stop Client (b ∷ token) = None
+token_stop Server token = Some (violation_at None)
+
 -- The same in a 1-RTT packet that an end of this side receives, which skipped the number `skipped` last: an ACK of that number
 -- stops it too (RFC 9000, section 21.4), and frames of kinds that aren't taken so far stop it with INTERNAL_ERROR. Those about streams and
 -- connection ids, and DATAGRAM, don't by their kind.
@@ -81,6 +88,7 @@ data_stop side next skipped type (frames.Crypto offset body) = None
 data_stop side next skipped type (frames.ConnectionClose code frame_type reason) = None
 data_stop side next skipped type (frames.ApplicationClose code reason) = None
 data_stop side next skipped type frames.HandshakeDone = done_stop side
+data_stop side next skipped type (frames.NewToken token) = token_stop side token
 data_stop side next skipped type (frames.ResetStream id code size) = None
 data_stop side next skipped type (frames.StopSending id code) = None
 data_stop side next skipped type (frames.Stream id offset fin body) = None
@@ -179,7 +187,7 @@ pub data Course (t : Types) : Type 0 where
   Ended : (now : At t) → Course t  -- one of them ended the packet
 
 module _ {t : Types} where
-  -- the peer closed, for this reason: the connection drains, if it was open
+  -- the peer closed, for this reason, or speaks no version that this end does: the connection drains, if it was open
   unfoldable pub left_after : (time : ℕ) → ConnectionError → At t → At t
   left_after time why a = if is_open a.state.life.state then given_after why (move_to (PeerCloses time) a) else a
 
@@ -274,12 +282,17 @@ module _ {t : Types} where
   unfoldable pub retired_after : (time sequence : ℕ) → At t → Behind t
   retired_after time n a = refused_after time (retire_stop n a.state.lower.ids) (move_to (Retire time n) a)
 
+  -- a client's store is given a token of its server's (RFC 9000, section 8.1.3)
+  unfoldable pub token_given : FrameValue → At t → At t
+  token_given frame a = move_to (Tell (did.Gave layer.Store (spelling frame))) a
+
   -- What a frame does that its kind doesn't stop: a row for each kind that does something. The frames of kinds that do nothing have
   -- the last row: PADDING, PING and DATA_BLOCKED, and in this place those that stop every packet so far.
   unfoldable pub applied_after : Meaning t → Coming → SpaceId → FrameValue → At t → Behind t
   applied_after m coming id (frames.Ack ack) a = Goes (acked_after m coming.time id ack a)
   applied_after m coming id (frames.Crypto offset body) a = ended_by coming.time (crypto_stop a.state id offset body) (kept_after m coming id offset body) a
   applied_after m coming id frames.HandshakeDone a = Goes (confirmed_after coming.time a)
+  applied_after m coming id (frames.NewToken token) a = Goes (token_given (frames.NewToken token) a)
   applied_after m coming id (frames.ConnectionClose code type reason) a =
       close_after coming id (frames.ConnectionClose code type reason) (lost.ConnectionClosed (record { error_code = code; frame_type = type; reason = reason })) a
   applied_after m coming id (frames.ApplicationClose code reason) a =
@@ -395,11 +408,34 @@ module _ {t : Types} where
       received_after m coming id spin source token number payload (unsealed_after m coming.time which number a)
   opening_after m coming None (Opened source token spin which number payload) a = piece_told None None verdict.Ignored a
 
+  -- A Retry with this source id and this token is taken: packets go to that id, Initial keys are made of it, under which nothing was sealed, the
+  -- Initial space begins anew with the hello, but that its numbers go on, and Initial packets carry the token (RFC 9000, sections 8.1.2 and 17.2.5;
+  -- RFC 9001, section 5.2). The loss timer is set anew.
+  unfoldable pub renewed_after : Meaning t → (time : ℕ) → (cid token : List ℕ) → At t → At t
+  renewed_after m time cid token a =
+      armed_after time (move_to (Renew time cid token (new_keys m.seal_limit m.failure_limit (m.initial a.state.lower.session cid Client))) a)
+
+  -- what a packet with this header and these bytes does that is taken, if it is a Retry
+  abbrev pub retried_after : Meaning t → (time : ℕ) → ProtectedHeader → (bytes : List ℕ) → At t → At t
+  retried_after m time (protected.Retry dst_cid src_cid version) bytes a = renewed_after m time src_cid (retry_token (drop (ids_end dst_cid src_cid) bytes)) a
+  retried_after m time _ bytes a = a
+
+  -- What a packet without a number does, by its verdict: a Retry that is taken; a list of versions without this end's, behind which the
+  -- connection drains (RFC 9000, section 6.2); nothing else
+  abbrev pub unnumbered_after : Meaning t → (time : ℕ) → Piece → Verdict → At t → At t
+  unnumbered_after m time p verdict.RetryTaken a = retried_after m time p.header p.bytes a
+  unnumbered_after m time p verdict.Versions a = left_after time lost.VersionMismatch (piece_told None None verdict.Versions a)
+  unnumbered_after m time p _ a = piece_told None None verdict.Ignored a
+
+  -- a packet of a form with numbers of this space, or without
+  abbrev pub formed_after : Meaning t → Coming → Option SpaceId → Piece → At t → At t
+  formed_after m coming None p a = unnumbered_after m coming.time p (unnumbered_verdict m a.state p) a
+  formed_after m coming (Some id) p a = opening_after m coming (Some id) (opening_of m a.state p) a
+
   -- one packet; behind one that ended the connection, or made it drain, it is ignored
   unfoldable pub piece_after : Meaning t → Coming → Piece → At t → At t
   piece_after m coming p a =
-      if is_over a.state.life.state then piece_told (space_of p.header) None verdict.Ignored a
-      else opening_after m coming (space_of p.header) (opening_of m a.state p) a
+      if is_over a.state.life.state then piece_told (space_of p.header) None verdict.Ignored a else formed_after m coming (space_of p.header) p a
 
   -- the packets of a datagram, up to the first bytes that begin with none
   abbrev pub pieces_after : Meaning t → Coming → List DatagramItem → At t → At t

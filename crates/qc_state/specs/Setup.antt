@@ -14,7 +14,7 @@ use Rattle.qc_state.specs.Timers.{least}
 
 -- the same with the source of random words as its stream
 unfoldable pub ideal_setup : {R : Type 0} → (R → Stream) → Setup R → Setup Stream
-ideal_setup stream s = record { fixed = s.fixed; peer = s.peer; token = s.token; initial_token = s.initial_token; random = stream s.random }
+ideal_setup stream s = record { fixed = s.fixed; peer = s.peer; token = s.token; initial_token = s.initial_token; retry_cid = s.retry_cid; random = stream s.random }
 
 -- a limit on idle time in nanoseconds, of one in milliseconds: none, and 0, are no limit (RFC 9000, section 10.1)
 abbrev pub idle_limit_of : Option ℕ → Option ℕ
@@ -72,6 +72,10 @@ module _ {R : Type 0} where
   -- a server's first packet came, with this token
   unfoldable pub token_expected : Setup R → List ℕ → Setup R
   token_expected s token = record s { token = Some token }
+
+  -- a Retry with this source id and this token was taken: all Initial packets carry its token from then on (RFC 9000, section 17.2.5.2)
+  unfoldable pub retry_taken : Setup R → (cid token : List ℕ) → Setup R
+  retry_taken s cid token = record s { initial_token = token; retry_cid = Some cid }
 
   -- this end is a server whose first packet didn't come yet
   unfoldable pub is_first_awaited : Setup R → Bool

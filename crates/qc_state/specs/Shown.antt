@@ -11,7 +11,7 @@ use Rattle.qc_base.specs.TransportErrorCode.{code_text}
 use Rattle.qc_state.specs.declared.life.ApplicationClose.{ApplicationClose}
 use Rattle.qc_state.specs.declared.life.ConnectionClose.{ConnectionClose}
 use Rattle.qc_state.specs.declared.life.ConnectionError.{ConnectionError}
-use Rattle.qc_state.specs.declared.life.ConnectionError.TheVariants.{TransportError, ConnectionClosed, ApplicationClosed, TimedOut}
+use Rattle.qc_state.specs.declared.life.ConnectionError.TheVariants.{VersionMismatch, TransportError, ConnectionClosed, ApplicationClosed, TimedOut}
 use Rattle.qc_state.specs.declared.events.EndpointEvent.{EndpointEvent}
 use Rattle.qc_state.specs.declared.events.EndpointEvent.TheVariants as endpoint
 use Rattle.qc_state.specs.declared.events.Event.{Event}
@@ -44,6 +44,7 @@ error_text (TransportError error) = code_text error.code
 error_text (ConnectionClosed close) = codes "aborted by peer: " ++ connection_close_text close
 error_text (ApplicationClosed close) = codes "closed by peer: " ++ application_close_text close
 error_text TimedOut = codes "timed out"
+error_text VersionMismatch = codes "peer doesn't implement any supported version"
 
 -- a kind of streams
 abbrev pub dir_text : Dir → List ℕ

@@ -37,6 +37,7 @@ pub record Meaning (t : Types) : Type 1 where
   pub parameters : t.S → Result (Option TransportParameters) TransportError
   pub next_keys : t.S → Option (KeyPair t.P)
   pub after_next : t.S → t.S
+  pub fits_retry : t.S → (first_cid header payload : List ℕ) → Bool
   pub control : ControllerGhosts t.C
 
 -- the meaning that the traits give
@@ -58,5 +59,6 @@ meaning s h p c = record {
   parameters = s.parameters;
   next_keys = s.next_keys;
   after_next = s.after_next;
+  fits_retry = s.fits_retry;
   control = c;
 }

@@ -4,7 +4,7 @@ use Rattle.std.specs.Prelude.{◌≡◌, ℕ, ◌+◌, ◌-◌, ◌<◌, ◌≤�
 use Rattle.std.specs.List.{list_any}
 use Rattle.qc_base.specs.declared.ecn.EcnCodepoint.{EcnCodepoint}
 use Rattle.qc_base.specs.declared.side.SpaceId.{SpaceId}
-use Rattle.qc_base.specs.declared.side.SpaceId.TheVariants.{«Data»}
+use Rattle.qc_base.specs.declared.side.SpaceId.TheVariants.{Initial, «Data»}
 use Rattle.qc_frame.specs.Frame.{FrameValue}
 use Rattle.qc_frame.specs.declared.frames.EcnCounts.{EcnCounts}
 use Rattle.qc_frame.specs.declared.frames.FrameOf.TheVariants as frames
@@ -206,6 +206,14 @@ nothing_left w = record w { done = false; ping = false; crypto = discarded w.cry
 -- the keys of the space were dropped
 unfoldable pub space_left : Waiting → SpaceId → Waiting
 space_left v id = record v { spaces = with_space v.spaces id (nothing_left (space_of v.spaces id)) }
+
+-- all CRYPTO bytes of the space wait again from the first one on, each once, and nothing else does that elicits an acknowledgement
+unfoldable pub bytes_again : SpaceWaiting → SpaceWaiting
+bytes_again w = record w { ping = false; crypto = range_lost 0 w.crypto.sent w.crypto; probes = 0 }
+
+-- a client's hello waits again in the Initial space, which begins anew (RFC 9000, section 17.2.5.2)
+unfoldable pub hello_again : Waiting → Waiting
+hello_again v = record v { spaces = with_space v.spaces Initial (bytes_again (space_of v.spaces Initial)) }
 
 -- a frame that is sealed waits no longer, where it waited here
 unfoldable pub without : SpaceWaiting → FrameValue → SpaceWaiting

@@ -95,6 +95,18 @@ impl CryptoQueue {
         Ok(())
     }
 
+    /// All bytes wait again from the first one on, each once: those that were sealed, and behind them those that never were. Want of
+    /// memory is the only refusal.
+    #[tactic(auto, unfolding(qc_send_stream::specs::Buffer::range_lost))]
+    pub fn lose_all(&mut self) -> Result<(), AllocError>
+        ensures { OnOk result (self.new ≡ range_lost 0 self.old.sent self.old) }
+    {
+        let sent = self.buffer.sent();
+        self.buffer.lose(0, sent)?;
+        self.waits = self.buffer.waits();
+        Ok(())
+    }
+
     /// The keys of the space were dropped: no byte waits any more.
     #[tactic(auto, unfolding(qc_send_stream::specs::Buffer::discarded))]
     pub fn discard(&mut self)

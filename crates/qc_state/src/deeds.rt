@@ -26,10 +26,11 @@ pub enum Quiet {
     Killed,
 }
 
-/// What became of a packet that came. Verdicts on stateless resets, on Retry and on Version Negotiation aren't given yet.
+/// What became of a packet that came. A verdict on stateless resets isn't given yet.
 #[derive(Clone, Copy)]
 pub enum Verdict {
-    /// It changed nothing: a key that its form needs is missing, or it is too short to be unmasked.
+    /// It changed nothing: a key that its form needs is missing, it is too short to be unmasked, or it has no number and isn't
+    /// taken.
     Ignored,
     /// Its key didn't open it (RFC 9001, 5.5).
     Failure,
@@ -48,6 +49,10 @@ pub enum Verdict {
     AckOnly,
     /// Its frames were applied.
     Admitted,
+    /// It is a Retry that a client took (RFC 9000, 17.2.5).
+    RetryTaken,
+    /// It is a Version Negotiation packet without this end's version, which ended a client's connection (RFC 9000, 6.2).
+    Versions,
 }
 
 /// The layer that a frame was given to.
@@ -63,6 +68,8 @@ pub enum Layer {
     Ids,
     /// The life of the connection: closes.
     Life,
+    /// The store of tokens (RFC 9000, 8.1.3).
+    Store,
 }
 
 /// One thing that a connection did.

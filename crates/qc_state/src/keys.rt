@@ -2,7 +2,7 @@
 
 ghost use Rattle.std.specs.Prelude.{◌≡◌, Some};
 ghost use Rattle.std.specs.Option.{option_copied, option_map};
-ghost use Rattle.qc_state.specs.Keys.{HandshakeKeys, DataKeys, count_one, ring_used, key_used, failure_counted, first_keys, has_keys, header_key, packet_key, unmasking_key, opening_key, ring_of, phase_with, phase_now, new_keys, new_ring, plain_usage, ring_usage, usage_of, plain_integrity, ring_integrity, reaches_limit, integrity_limit_of, exceeds_limit, fails_too_often, keys_given, keys_dropped, form_in, has_keys_for, epoch_with, epoch_in, epoch_keys, fresh_with, fresh_for, fresh_keys, with_ring, ring_opened, key_opened, sets_floor, ring_acked, key_acked, ring_may_update, ring_updated, key_updated, ring_discarded, key_discarded, phase_size, is_phase_full};
+ghost use Rattle.qc_state.specs.Keys.{HandshakeKeys, DataKeys, count_one, ring_used, key_used, failure_counted, first_keys, has_keys, header_key, packet_key, unmasking_key, opening_key, ring_of, phase_with, phase_now, new_keys, new_ring, plain_usage, ring_usage, usage_of, plain_integrity, ring_integrity, reaches_limit, integrity_limit_of, exceeds_limit, fails_too_often, keys_given, keys_dropped, form_in, has_keys_for, epoch_with, epoch_in, epoch_keys, fresh_with, fresh_for, fresh_keys, with_ring, ring_opened, key_opened, sets_floor, ring_acked, key_acked, ring_may_update, ring_updated, key_updated, ring_discarded, key_discarded, phase_size, is_phase_full, initial_renewed};
 ghost use Rattle.qc_rings.specs.Keyed.{keyed_opened, keyed_updated};
 
 use crate::form::Form;
@@ -344,7 +344,7 @@ fn phase_with<H, P: Drop>(keys: &Option<OneRttKeys<H, P>>) -> bool
     }
 }
 
-#[tactic(auto, unfolding(crate::specs::Keys::key_used, crate::specs::Keys::failure_counted, crate::specs::Keys::has_keys, crate::specs::Keys::header_key, crate::specs::Keys::packet_key, crate::specs::Keys::unmasking_key, crate::specs::Keys::opening_key, crate::specs::Keys::plain_keys, crate::specs::Keys::ring_of, crate::specs::Keys::phase_now, crate::specs::Keys::usage_of, crate::specs::Keys::integrity_limit_of, crate::specs::Keys::keys_given, crate::specs::Keys::keys_dropped, crate::specs::Keys::fails_too_often, crate::specs::Keys::form_in, crate::specs::Keys::has_keys_for, crate::specs::Keys::epoch_in, crate::specs::Keys::key_opened, crate::specs::Keys::key_acked, crate::specs::Keys::key_updated, crate::specs::Keys::key_discarded))]
+#[tactic(auto, unfolding(crate::specs::Keys::key_used, crate::specs::Keys::failure_counted, crate::specs::Keys::has_keys, crate::specs::Keys::header_key, crate::specs::Keys::packet_key, crate::specs::Keys::unmasking_key, crate::specs::Keys::opening_key, crate::specs::Keys::plain_keys, crate::specs::Keys::ring_of, crate::specs::Keys::phase_now, crate::specs::Keys::usage_of, crate::specs::Keys::integrity_limit_of, crate::specs::Keys::keys_given, crate::specs::Keys::keys_dropped, crate::specs::Keys::fails_too_often, crate::specs::Keys::form_in, crate::specs::Keys::has_keys_for, crate::specs::Keys::epoch_in, crate::specs::Keys::key_opened, crate::specs::Keys::key_acked, crate::specs::Keys::key_updated, crate::specs::Keys::key_discarded, crate::specs::Keys::initial_renewed))]
 impl<H: Drop, P: Drop> KeyGroup<H, P> {
     /// The group of a connection that was just made, with the keys of its Initial space.
     pub fn new(initial: SpaceKeys<H, P>) -> KeyGroup<H, P>
@@ -356,6 +356,15 @@ impl<H: Drop, P: Drop> KeyGroup<H, P> {
             data: None,
             highest: SpaceId::Initial,
             failures: 0,
+        }
+    }
+
+    /// These keys stand in the place of those of the Initial space, where it has keys still.
+    pub fn renew_initial(&mut self, keys: SpaceKeys<H, P>)
+        ensures { self.new ≡ initial_renewed self.old keys }
+    {
+        if self.initial.is_some() {
+            self.initial = Some(keys);
         }
     }
 

@@ -57,6 +57,8 @@ pub enum Close {
 /// Why a connection ended.
 #[derive(Debug, Drop, PartialEq, Eq)]
 pub enum ConnectionError {
+    /// The server speaks no version of QUIC that this end does (RFC 9000, 6.2).
+    VersionMismatch,
     /// This end found the error.
     TransportError(TransportError),
     /// The peer closed because of an error of the transport.
@@ -133,6 +135,7 @@ impl ConnectionError {
                 Ok(ConnectionError::ApplicationClosed(close))
             }
             ConnectionError::TimedOut => Ok(ConnectionError::TimedOut),
+            ConnectionError::VersionMismatch => Ok(ConnectionError::VersionMismatch),
         }
     }
 }

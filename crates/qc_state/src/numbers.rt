@@ -3,7 +3,7 @@
 ghost use Rattle.std.specs.Prelude.{◌≡◌, ◌≤◌, ◌<◌, ◌^◌, true};
 ghost use Rattle.qc_base.specs.declared.side.SpaceId.TheVariants.{«Data»};
 ghost use Rattle.qc_state.specs.Draws.{word, behind};
-ghost use Rattle.qc_state.specs.Numbers.{began_at, no_numbers, next_number, acked_number, number_used, used_in, is_skipped, coming_number, number_skipped, received_number, came_in, is_new_in, number_entered, entered_in, number_accepted, accepted_in, number_acked, acked_in};
+ghost use Rattle.qc_state.specs.Numbers.{began_at, no_numbers, next_number, acked_number, number_used, used_in, is_skipped, coming_number, number_skipped, received_number, came_in, is_new_in, number_entered, entered_in, number_accepted, accepted_in, number_acked, acked_in, space_renewed};
 
 use crate::spaces::Spaces;
 use qc_base::{Instant, SpaceId};
@@ -32,6 +32,8 @@ pub struct Numbers {
     pub spaces: Spaces<SpaceNumbers>,
     /// Which numbers of 1-RTT packets are skipped (RFC 9000, 21.4).
     pub filter: PacketNumberFilter,
+    /// Whether a packet of the peer was accepted, in any space.
+    pub opened: bool,
 }
 
 #[tactic(auto, unfolding(crate::specs::Numbers::used_in, crate::specs::Numbers::entered_in, crate::specs::Numbers::accepted_in, crate::specs::Numbers::acked_in))]
@@ -76,7 +78,7 @@ impl SpaceNumbers {
     }
 }
 
-#[tactic(auto, unfolding(crate::specs::Numbers::next_number, crate::specs::Numbers::is_skipped, crate::specs::Numbers::coming_number, crate::specs::Numbers::began_at, crate::specs::Numbers::number_used, crate::specs::Numbers::acked_number, crate::specs::Numbers::received_number, crate::specs::Numbers::came_in, crate::specs::Numbers::is_new_in, crate::specs::Numbers::number_entered, crate::specs::Numbers::number_accepted, crate::specs::Numbers::number_acked))]
+#[tactic(auto, unfolding(crate::specs::Numbers::next_number, crate::specs::Numbers::is_skipped, crate::specs::Numbers::coming_number, crate::specs::Numbers::began_at, crate::specs::Numbers::number_used, crate::specs::Numbers::acked_number, crate::specs::Numbers::received_number, crate::specs::Numbers::came_in, crate::specs::Numbers::is_new_in, crate::specs::Numbers::number_entered, crate::specs::Numbers::number_accepted, crate::specs::Numbers::number_acked, crate::specs::Numbers::space_renewed))]
 impl Numbers {
     /// The number of the next packet that is sealed in the space.
     pub fn next(&self, space: SpaceId) -> u64
@@ -192,11 +194,19 @@ impl Numbers {
     pub fn accepted(&mut self, space: SpaceId, number: u64)
         ensures { self.new ≡ number_accepted self.old space number }
     {
+        self.opened = true;
         match space {
             SpaceId::Initial => self.spaces.initial.accepted(number),
             SpaceId::Handshake => self.spaces.handshake.accepted(number),
             SpaceId::Data => self.spaces.application.accepted(number),
         }
+    }
+
+    /// The Initial space begins anew at `now`, and its numbers go on (RFC 9000, 17.2.5.3).
+    pub fn renew(&mut self, now: Instant)
+        ensures { self.new ≡ space_renewed self.old now }
+    {
+        self.spaces.initial.began = now;
     }
 
     /// The peer acknowledged packets up to this number.

@@ -43,6 +43,14 @@ impl<S: Session> SoundSession<S> {
         self.session.initial_keys(dst_cid, side)
     }
 
+    /// Whether the integrity tag of a Retry packet fits the destination id of a client's first packet (RFC 9001, 5.8). `header` is the packet
+    /// up to its token, and `payload` the token and the tag.
+    pub fn is_valid_retry(&self, first_cid: &ConnectionId, header: &[u8], payload: &[u8]) -> bool
+        ensures { result ≡ S.fits_retry self.now first_cid.now header.now payload.now }
+    {
+        self.session.is_valid_retry(first_cid, header, payload)
+    }
+
     /// Whether the handshake goes on still.
     pub fn is_handshaking(&self) -> bool
         ensures { result ≡ S.handshaking self.now }

@@ -2,7 +2,7 @@
 
 ghost use Rattle.std.specs.Prelude.{◌≡◌, ◌&&◌, not, if◌then◌else◌, Some};
 ghost use Rattle.qc_state.specs.Draws.{bit, behind_bit};
-ghost use Rattle.qc_state.specs.Setup.{ideal_setup, idle_limit_of, idle_limit_now, peer_delay, peer_exponent, takes_grease, behind_spin, packet_drawn, parameters_known, token_expected, is_first_awaited, awaits_first};
+ghost use Rattle.qc_state.specs.Setup.{ideal_setup, idle_limit_of, idle_limit_now, peer_delay, peer_exponent, takes_grease, behind_spin, packet_drawn, parameters_known, retry_taken, token_expected, is_first_awaited, awaits_first};
 ghost use Rattle.qc_state.specs.Forms.{is_one_rtt};
 ghost use Rattle.qc_state.specs.Timers.{least};
 
@@ -58,6 +58,8 @@ pub struct Setup<R> {
     pub token: Option<Bytes>,
     /// The token that this end's Initial packets carry, empty where it has none (RFC 9000, 8.1).
     pub initial_token: Bytes,
+    /// The source id of the Retry that a client took, if it took one (RFC 9000, 17.2.5).
+    pub retry_cid: Option<ConnectionId>,
     /// The source of random words. Contracts know it by its stream alone.
     pub random: R,
 }
@@ -154,7 +156,7 @@ fn awaits_first(side: Side, token: &Option<Bytes>) -> bool
     }
 }
 
-#[tactic(auto, unfolding(crate::specs::Setup::idle_limit_now, crate::specs::Setup::parameters_known, crate::specs::Setup::token_expected, crate::specs::Setup::is_first_awaited))]
+#[tactic(auto, unfolding(crate::specs::Setup::idle_limit_now, crate::specs::Setup::parameters_known, crate::specs::Setup::token_expected, crate::specs::Setup::retry_taken, crate::specs::Setup::is_first_awaited))]
 impl<R> Setup<R> {
     /// The limit on idle time: this end's own one, and once the peer's parameters were read the lesser of the two ends'.
     pub fn idle_limit(&self) -> Option<Duration>
@@ -198,6 +200,14 @@ impl<R> Setup<R> {
         ensures { self.new ≡ token_expected self.old token }
     {
         self.token = Some(token);
+    }
+
+    /// A Retry with this source id and this token was taken.
+    pub fn retry(&mut self, cid: ConnectionId, token: Bytes)
+        ensures { self.new ≡ retry_taken self.old cid token }
+    {
+        self.initial_token = token;
+        self.retry_cid = Some(cid);
     }
 
     /// Whether this end is a server whose first packet didn't come yet.

@@ -108,6 +108,9 @@ impl fmt::Display for ConnectionError {
             ConnectionError::ConnectionClosed(close) => write!(f, "aborted by peer: {close}"),
             ConnectionError::ApplicationClosed(close) => write!(f, "closed by peer: {close}"),
             ConnectionError::TimedOut => write!(f, "timed out"),
+            ConnectionError::VersionMismatch => {
+                write!(f, "peer doesn't implement any supported version")
+            }
         }
     }
 }

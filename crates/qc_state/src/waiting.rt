@@ -15,7 +15,7 @@ ghost use Rattle.qc_state.specs.Lower.{frames_sealed};
 ghost use Rattle.qc_state.specs.Offers.{offers_here};
 ghost use Rattle.qc_state.specs.StreamFrames.{sealed_steps};
 ghost use Rattle.qc_state.specs.Taking.{TakenPart};
-ghost use Rattle.qc_state.specs.Waiting.{ack_released, bundle_next, came_in, close_begun, counts_begun, crypto_written, done_asked, fired_in, frames_again, holds_back, mark_counted, marks_begun, nothing_left, packet_came, packet_told, packets_acked, packets_lost, ping_asked, probe_spent, probes_added, space_left, waiting_without, wants_here};
+ghost use Rattle.qc_state.specs.Waiting.{ack_released, bundle_next, bytes_again, came_in, close_begun, counts_begun, crypto_written, done_asked, fired_in, frames_again, hello_again, holds_back, mark_counted, marks_begun, nothing_left, packet_came, packet_told, packets_acked, packets_lost, ping_asked, probe_spent, probes_added, space_left, waiting_without, wants_here};
 ghost use Rattle.qc_streams.specs.Steps.{AllMay};
 
 use crate::crypto_queue::CryptoQueue;
@@ -167,7 +167,17 @@ fn leave(space: &mut SpaceWaiting)
     space.probes = 0;
 }
 
-#[tactic(auto, unfolding(crate::specs::Waiting::packets_lost, crate::specs::Waiting::packets_acked, crate::specs::Waiting::probes_added, crate::specs::Waiting::probe_spent, crate::specs::Waiting::frames_again, crate::specs::Waiting::packet_came, crate::specs::Waiting::holds_back, crate::specs::Waiting::ack_released, crate::specs::Waiting::bundle_next, crate::specs::Waiting::crypto_written, crate::specs::Waiting::space_left, crate::specs::Waiting::close_begun, crate::specs::Waiting::packet_told, crate::specs::Waiting::ping_asked, crate::specs::Waiting::done_asked, crate::specs::Waiting::waiting_without))]
+/// All CRYPTO bytes wait again, and nothing else that elicits an acknowledgement. Want of memory is the only refusal.
+#[tactic(auto, unfolding(crate::specs::Waiting::bytes_again))]
+fn lose_all(space: &mut SpaceWaiting) -> Result<(), AllocError>
+    ensures { OnOk result (space.new ≡ bytes_again space.old) }
+{
+    space.ping = false;
+    space.probes = 0;
+    space.crypto.lose_all()
+}
+
+#[tactic(auto, unfolding(crate::specs::Waiting::packets_lost, crate::specs::Waiting::packets_acked, crate::specs::Waiting::probes_added, crate::specs::Waiting::probe_spent, crate::specs::Waiting::frames_again, crate::specs::Waiting::packet_came, crate::specs::Waiting::holds_back, crate::specs::Waiting::ack_released, crate::specs::Waiting::bundle_next, crate::specs::Waiting::crypto_written, crate::specs::Waiting::space_left, crate::specs::Waiting::close_begun, crate::specs::Waiting::packet_told, crate::specs::Waiting::ping_asked, crate::specs::Waiting::done_asked, crate::specs::Waiting::waiting_without, crate::specs::Waiting::hello_again))]
 impl Waiting {
     /// Whether a frame waits here in the space that elicits an acknowledgement.
     pub fn wants(&self, space: SpaceId) -> bool
@@ -368,6 +378,14 @@ impl Waiting {
             SpaceId::Handshake => leave(&mut self.spaces.handshake),
             SpaceId::Data => leave(&mut self.spaces.application),
         }
+    }
+
+    /// A client's hello waits again in the Initial space, from its first byte on, and nothing else does there that elicits an acknowledgement.
+    /// Want of memory is the only refusal.
+    pub fn renew(&mut self) -> Result<(), AllocError>
+        ensures { OnOk result (self.new ≡ hello_again self.old) }
+    {
+        lose_all(&mut self.spaces.initial)
     }
 
     /// A PING waits from now on in the space.

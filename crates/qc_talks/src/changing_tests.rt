@@ -18,14 +18,20 @@ struct Place {
     header: usize,
 }
 
-/// A packet on its way: where it comes from, when, its bytes, and the length of its header.
+/// A packet on its way: where it comes from, when, its bytes, the length of its header, and whether it is the first that comes to
+/// a client.
 #[derive(Drop)]
 struct OnItsWay {
     remote: SocketAddr,
     nanos: u64,
     bytes: Vec<u8>,
     header: usize,
+    is_first_answer: bool,
 }
+
+/// The place of the last byte of a long header's version. Version 1 with its lowest bit changed is 0, which makes a Version
+/// Negotiation packet (RFC 9000, 17.2.1), and a client to which nothing came yet takes one: nothing protects it.
+const VERSION_END: usize = 4;
 
 /// Carries so many flights, the client's first.
 fn carry_flights(alloc: Global, pair: &mut Pair, flights: u32) -> Result<(), Fail> {
@@ -86,6 +92,7 @@ fn packet_at(alloc: Global, pair: &mut Pair, place: Place) -> Result<OnItsWay, F
             nanos,
             bytes,
             header,
+            is_first_answer: false,
         })
     } else {
         let bytes = bytes_sent(alloc, &mut pair.server, &mut pair.client, nanos, is_second)?;
@@ -94,6 +101,7 @@ fn packet_at(alloc: Global, pair: &mut Pair, place: Place) -> Result<OnItsWay, F
             nanos,
             bytes,
             header,
+            is_first_answer: place.flights == 1 && !is_second,
         })
     }
 }
@@ -142,12 +150,13 @@ fn takes_changed(
     Ok(!is_untouched(end.text.as_str()))
 }
 
-/// Hands an end a packet once for each place in the header and in the tag of 16 bytes, changed there: gives the first place at
-/// which it is taken.
+/// Hands an end a packet once for each place in the header and in the tag of 16 bytes, changed there, but for the version's end in
+/// the first answer to a client: gives the first place at which it is taken.
 fn first_taken(alloc: Global, end: &mut End, packet: &OnItsWay) -> Result<Option<usize>, Fail> {
     let len = packet.bytes.len();
     for place in 0..len {
         if (place < packet.header || len - place <= 16)
+            && !(packet.is_first_answer && place == VERSION_END)
             && takes_changed(alloc, end, packet, place)?
         {
             return Ok(Some(place));

@@ -183,6 +183,16 @@ impl End {
         Ok(())
     }
 
+    /// The application updates the keys by its own call: whether they were updated.
+    pub(crate) fn forces_update(&mut self) -> bool {
+        self.connection.force_key_update()
+    }
+
+    /// The same by the other name of that call.
+    pub(crate) fn initiates_update(&mut self) -> bool {
+        self.connection.initiate_key_update()
+    }
+
     /// The application closes with code 7 and the reason `bye`.
     pub(crate) fn closes(&mut self, alloc: Global, nanos: u64) -> Result<(), Fail> {
         let input = Input::Close {

@@ -125,6 +125,29 @@ fn each_end_updates(rt: HostRuntime) -> Result<(), Fail> {
     are_in_epoch(&rt, alloc, &pair, "2")
 }
 
+// Before the handshake is over no end may update its keys (RFC 9001, 6.1).
+#[test]
+fn no_end_updates_early(rt: HostRuntime) -> Result<(), Fail> {
+    let mut pair = Pair::new(rt.alloc())?;
+    assert!(rt; !pair.client.forces_update());
+    assert!(rt; !pair.server.initiates_update());
+    Ok(())
+}
+
+// By the calls of the application, each end updates its keys once.
+#[test]
+fn calls_update_keys(rt: HostRuntime) -> Result<(), Fail> {
+    let alloc = rt.alloc();
+    let mut pair = two_ends(alloc)?;
+    assert!(rt; pair.client.forces_update());
+    assert!(rt; !pair.client.initiates_update());
+    assert!(rt; pair.server.initiates_update());
+    assert!(rt; !pair.server.forces_update());
+    ping(alloc, &mut pair, true)?;
+    ping(alloc, &mut pair, false)?;
+    are_in_epoch(&rt, alloc, &pair, "1")
+}
+
 // Both update before either hears of the other: both are in the same epoch then.
 #[test]
 fn both_ends_update_at_once(rt: HostRuntime) -> Result<(), Fail> {

@@ -10,11 +10,11 @@ use Rattle.qc_frame.specs.Frame.{FrameValue}
 use Rattle.qc_state.specs.declared.deeds.Did.{Did}
 use Rattle.qc_state.specs.declared.deeds.Did.TheVariants as deed
 use Rattle.qc_state.specs.declared.deeds.Layer.{Layer}
-use Rattle.qc_state.specs.declared.deeds.Layer.TheVariants.{Streams, Recovery, Session, Ids, Life}
+use Rattle.qc_state.specs.declared.deeds.Layer.TheVariants.{Streams, Recovery, Session, Ids, Life, Store}
 use Rattle.qc_state.specs.declared.deeds.Quiet.{Quiet}
 use Rattle.qc_state.specs.declared.deeds.Quiet.TheVariants.{NothingOwed, Silent, Amplification, Congestion, Pacing, Killed}
 use Rattle.qc_state.specs.declared.deeds.Verdict.{Verdict}
-use Rattle.qc_state.specs.declared.deeds.Verdict.TheVariants.{Ignored, Failure, BadBits, BadUpdate, Seen, ReadForClose, NumberOnly, AckOnly, Admitted}
+use Rattle.qc_state.specs.declared.deeds.Verdict.TheVariants.{Ignored, Failure, BadBits, BadUpdate, Seen, ReadForClose, NumberOnly, AckOnly, Admitted, RetryTaken, Versions}
 use Rattle.qc_text.specs.TraceText.{number_or_dash, frames_text, space_name, option_space_name, verdict_name, layer_name, type_name, given_name, named_text, given_text, epoch_text, packet_text, sealed_text, piece_text, gave_text, quiet_name, did_text}
 use Rattle.qc_text.specs.OneText.{IsOptionInRange, IsDeedInRange, IsDeedPlain}
 use Rattle.qc_text.proofs.Tokens.{is_token, token_back, number_back, bytes_back, decimal_is_token, first_digit, decimal_injective_wide}
@@ -85,6 +85,8 @@ verdict_is_token ReadForClose = refl
 verdict_is_token NumberOnly = refl
 verdict_is_token AckOnly = refl
 verdict_is_token Admitted = refl
+verdict_is_token RetryTaken = refl
+verdict_is_token Versions = refl
 
 -- the fourth letters differ
 verdict_injective : (a b : Verdict) → verdict_name a ≡ verdict_name b → a ≡ b
@@ -98,6 +100,8 @@ verdict_injective ReadForClose ReadForClose e = refl
 verdict_injective NumberOnly NumberOnly e = refl
 verdict_injective AckOnly AckOnly e = refl
 verdict_injective Admitted Admitted e = refl
+verdict_injective RetryTaken RetryTaken e = refl
+verdict_injective Versions Versions e = refl
 verdict_injective _ _ e = absurd (omega (arith, ap (λ (a : List ℕ). get_or a 3 0) e))
 
 layer_is_token : (layer : Layer) → is_token (layer_name layer) ≡ true
@@ -107,6 +111,7 @@ layer_is_token Recovery = refl
 layer_is_token Session = refl
 layer_is_token Ids = refl
 layer_is_token Life = refl
+layer_is_token Store = refl
 
 -- the sums of the second and the third letter differ
 layer_injective : (a b : Layer) → layer_name a ≡ layer_name b → a ≡ b
@@ -116,42 +121,45 @@ layer_injective Recovery Recovery e = refl
 layer_injective Session Session e = refl
 layer_injective Ids Ids e = refl
 layer_injective Life Life e = refl
+layer_injective Store Store e = refl
 layer_injective _ _ e = absurd (omega (arith, ap (λ (a : List ℕ). get_or a 1 0 + get_or a 2 0) e))
 
-type_by : (a b c d e f g h i j k l m : Bool) → is_token
+type_by : (a b c d e f g h i j k l m n : Bool) → is_token
     (if a then codes "ACK"
     else if b then codes "RESET_STREAM"
     else if c then codes "STOP_SENDING"
-    else if d then codes "STREAM"
-    else if e then codes "MAX_DATA"
-    else if f then codes "MAX_STREAM_DATA"
-    else if g then codes "MAX_STREAMS"
-    else if h then codes "NEW_CONNECTION_ID"
-    else if i then codes "RETIRE_CONNECTION_ID"
-    else if j then codes "CONNECTION_CLOSE"
-    else if k then codes "APPLICATION_CLOSE"
-    else if l then codes "HANDSHAKE_DONE"
-    else if m then codes "DATAGRAM"
+    else if d then codes "NEW_TOKEN"
+    else if e then codes "STREAM"
+    else if f then codes "MAX_DATA"
+    else if g then codes "MAX_STREAM_DATA"
+    else if h then codes "MAX_STREAMS"
+    else if i then codes "NEW_CONNECTION_ID"
+    else if j then codes "RETIRE_CONNECTION_ID"
+    else if k then codes "CONNECTION_CLOSE"
+    else if l then codes "APPLICATION_CLOSE"
+    else if m then codes "HANDSHAKE_DONE"
+    else if n then codes "DATAGRAM"
     else codes "-") ≡ true
-type_by true b c d e f g h i j k l m = refl
-type_by false true c d e f g h i j k l m = refl
-type_by false false true d e f g h i j k l m = refl
-type_by false false false true e f g h i j k l m = refl
-type_by false false false false true f g h i j k l m = refl
-type_by false false false false false true g h i j k l m = refl
-type_by false false false false false false true h i j k l m = refl
-type_by false false false false false false false true i j k l m = refl
-type_by false false false false false false false false true j k l m = refl
-type_by false false false false false false false false false true k l m = refl
-type_by false false false false false false false false false false true l m = refl
-type_by false false false false false false false false false false false true m = refl
-type_by false false false false false false false false false false false false true = refl
-type_by false false false false false false false false false false false false false = refl
+type_by true b c d e f g h i j k l m n = refl
+type_by false true c d e f g h i j k l m n = refl
+type_by false false true d e f g h i j k l m n = refl
+type_by false false false true e f g h i j k l m n = refl
+type_by false false false false true f g h i j k l m n = refl
+type_by false false false false false true g h i j k l m n = refl
+type_by false false false false false false true h i j k l m n = refl
+type_by false false false false false false false true i j k l m n = refl
+type_by false false false false false false false false true j k l m n = refl
+type_by false false false false false false false false false true k l m n = refl
+type_by false false false false false false false false false false true l m n = refl
+type_by false false false false false false false false false false false true m n = refl
+type_by false false false false false false false false false false false false true n = refl
+type_by false false false false false false false false false false false false false true = refl
+type_by false false false false false false false false false false false false false false = refl
 
 given_is_token : (body : List ℕ) → is_token (given_name body) ≡ true
 unfolding given_name type_name
 given_is_token [] = refl
-given_is_token (type ∷ _) = type_by _ _ _ _ _ _ _ _ _ _ _ _ _
+given_is_token (type ∷ _) = type_by _ _ _ _ _ _ _ _ _ _ _ _ _ _
 
 -- ---- sealed packets
 
@@ -243,6 +251,7 @@ given_back Session a b r s p q e =
     (body.0, ap (drop 1) body.1)
 given_back Ids a b r s p q e = named_back a b r s p q e
 given_back Life a b r s p q e = named_back a b r s p q e
+given_back Store a b r s p q e = named_back a b r s p q e
 
 gave_parts : (layer : Layer) (body r : List ℕ) → gave_text layer body ++ r ≡ codes "gave " ++ (layer_name layer ++ 32 ∷ (given_text layer body ++ 10 ∷ r))
 unfolding gave_text

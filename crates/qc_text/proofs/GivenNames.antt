@@ -46,6 +46,7 @@ unfolding given_name type_name spelling varint frame_name
 given_named (frames.Ack ack) h = ack_given ack
 given_named (frames.ResetStream id code size) h = refl
 given_named (frames.StopSending id code) h = refl
+given_named (frames.NewToken token) h = refl
 given_named (frames.Stream id offset fin body) h = stream_named (has_offset offset) true fin (varint id) (offset_spelling offset) (blob body)
 given_named (frames.MaxData limit) h = refl
 given_named (frames.MaxStreamData id limit) h = refl

@@ -5,7 +5,7 @@ use Rattle.qc_base.specs.declared.transport_error.TransportError.{TransportError
 use Rattle.qc_state.specs.declared.life.ApplicationClose.{ApplicationClose}
 use Rattle.qc_state.specs.declared.life.ConnectionClose.{ConnectionClose}
 use Rattle.qc_state.specs.declared.life.ConnectionError.{ConnectionError}
-use Rattle.qc_state.specs.declared.life.ConnectionError.TheVariants.{TransportError, ConnectionClosed, ApplicationClosed, TimedOut}
+use Rattle.qc_state.specs.declared.life.ConnectionError.TheVariants.{VersionMismatch, TransportError, ConnectionClosed, ApplicationClosed, TimedOut}
 use Rattle.qc_text.specs.TraceText.{number_or_dash, bytes_or_dash, error_text, connection_close_text, application_close_text, reason_name, reason_values, reason_text}
 use Rattle.qc_text.specs.OneText.{IsErrorInRange, IsReasonInRange}
 use Rattle.qc_text.proofs.Tokens.{is_mark, is_token, token_back, number_back}
@@ -64,6 +64,7 @@ values_back (TransportError a) (TransportError b) r s p q n e = let both = error
 values_back (ConnectionClosed a) (ConnectionClosed b) r s p q n e = let both = connection_back a b r s p q (ap (drop 1) e) in (ap ConnectionClosed both.0, both.1)
 values_back (ApplicationClosed a) (ApplicationClosed b) r s p q n e = let both = application_back a b r s p q (ap (drop 1) e) in (ap ApplicationClosed both.0, both.1)
 values_back TimedOut TimedOut r s p q n e = (refl, ap (drop 1) e)
+values_back VersionMismatch VersionMismatch r s p q n e = (refl, ap (drop 1) e)
 values_back _ _ r s p q n e = absurd (omega (arith, ap (λ (a : List ℕ). get_or a 1 0) n))
 
 name_is_token : (a : ConnectionError) → is_token (reason_name a) ≡ true
@@ -72,6 +73,7 @@ name_is_token (TransportError a) = refl
 name_is_token (ConnectionClosed a) = refl
 name_is_token (ApplicationClosed a) = refl
 name_is_token TimedOut = refl
+name_is_token VersionMismatch = refl
 
 -- behind the name a space stands, or the end of the line
 values_mark : (a : ConnectionError) (r : List ℕ) → (c : ℕ) × (t : List ℕ) × (is_mark c ≡ true) × (reason_values a ++ 10 ∷ r ≡ c ∷ t)
@@ -80,6 +82,7 @@ values_mark (TransportError a) r = (32, error_text a ++ 10 ∷ r, refl, refl)
 values_mark (ConnectionClosed a) r = (32, connection_close_text a.error_code a.frame_type a.reason ++ 10 ∷ r, refl, refl)
 values_mark (ApplicationClosed a) r = (32, application_close_text a.error_code a.reason ++ 10 ∷ r, refl, refl)
 values_mark TimedOut r = (10, r, refl, refl)
+values_mark VersionMismatch r = (10, r, refl, refl)
 
 reason_parts : (a : ConnectionError) (r : List ℕ) → reason_text a ++ r ≡ reason_name a ++ (reason_values a ++ r)
 unfolding reason_text

@@ -19,7 +19,7 @@ use Rattle.qc_state.specs.declared.events.EndpointEvent.TheVariants.{ResetToken,
 use Rattle.qc_state.specs.declared.events.Event.{Event}
 use Rattle.qc_state.specs.declared.events.Event.TheVariants.{HandshakeDataReady, Connected, ConnectionLost, DatagramReceived, DatagramsUnblocked, Stream}
 use Rattle.qc_state.specs.declared.life.ConnectionError.{ConnectionError}
-use Rattle.qc_state.specs.declared.life.ConnectionError.TheVariants.{TransportError, ConnectionClosed, ApplicationClosed, TimedOut}
+use Rattle.qc_state.specs.declared.life.ConnectionError.TheVariants.{VersionMismatch, TransportError, ConnectionClosed, ApplicationClosed, TimedOut}
 use Rattle.qc_state.specs.declared.life.Life.{Life}
 use Rattle.qc_state.specs.declared.trace.Answer.{Answer}
 use Rattle.qc_state.specs.declared.trace.Answer.TheVariants as answer
@@ -60,6 +60,7 @@ IsReasonInRange (TransportError error) = IsErrorInRange error
 IsReasonInRange (ConnectionClosed close) = IsConnectionCloseInRange close.error_code close.frame_type close.reason
 IsReasonInRange (ApplicationClosed close) = IsApplicationCloseInRange close.error_code close.reason
 IsReasonInRange TimedOut = Unit {0}
+IsReasonInRange VersionMismatch = Unit {0}
 
 -- packet numbers and epochs have 64 bits, the rank of a life has 8, and frames are spelled by bytes
 abbrev pub IsDeedInRange : Did → Type 0

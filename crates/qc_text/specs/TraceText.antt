@@ -20,11 +20,11 @@ use Rattle.qc_frame.specs.declared.frames.FrameOf.TheVariants as frames
 use Rattle.qc_state.specs.declared.deeds.Did.{Did}
 use Rattle.qc_state.specs.declared.deeds.Did.TheVariants as deed
 use Rattle.qc_state.specs.declared.deeds.Layer.{Layer}
-use Rattle.qc_state.specs.declared.deeds.Layer.TheVariants.{Streams, Recovery, Session, Ids, Life}
+use Rattle.qc_state.specs.declared.deeds.Layer.TheVariants.{Streams, Recovery, Session, Ids, Life, Store}
 use Rattle.qc_state.specs.declared.deeds.Quiet.{Quiet}
 use Rattle.qc_state.specs.declared.deeds.Quiet.TheVariants.{NothingOwed, Silent, Amplification, Congestion, Pacing, Killed}
 use Rattle.qc_state.specs.declared.deeds.Verdict.{Verdict}
-use Rattle.qc_state.specs.declared.deeds.Verdict.TheVariants.{Ignored, Failure, BadBits, BadUpdate, Seen, ReadForClose, NumberOnly, AckOnly, Admitted}
+use Rattle.qc_state.specs.declared.deeds.Verdict.TheVariants.{Ignored, Failure, BadBits, BadUpdate, Seen, ReadForClose, NumberOnly, AckOnly, Admitted, RetryTaken, Versions}
 use Rattle.qc_state.specs.declared.events.EndpointEvent.{EndpointEvent}
 use Rattle.qc_state.specs.declared.events.EndpointEvent.TheVariants.{ResetToken, NeedIdentifiers, RetireConnectionId, Drained}
 use Rattle.qc_state.specs.declared.events.Event.{Event}
@@ -32,7 +32,7 @@ use Rattle.qc_state.specs.declared.events.Event.TheVariants.{HandshakeDataReady,
 use Rattle.qc_state.specs.declared.input.Word.{Word}
 use Rattle.qc_state.specs.declared.input.Word.TheVariants as word
 use Rattle.qc_state.specs.declared.life.ConnectionError.{ConnectionError}
-use Rattle.qc_state.specs.declared.life.ConnectionError.TheVariants.{TransportError, ConnectionClosed, ApplicationClosed, TimedOut}
+use Rattle.qc_state.specs.declared.life.ConnectionError.TheVariants.{VersionMismatch, TransportError, ConnectionClosed, ApplicationClosed, TimedOut}
 use Rattle.qc_state.specs.declared.trace.Answer.{Answer}
 use Rattle.qc_state.specs.declared.trace.Answer.TheVariants as answer
 use Rattle.qc_state.specs.declared.trace.Refusal.{Refusal}
@@ -123,6 +123,8 @@ verdict_name ReadForClose = codes "ReadForClose"
 verdict_name NumberOnly = codes "NumberOnly"
 verdict_name AckOnly = codes "AckOnly"
 verdict_name Admitted = codes "Admitted"
+verdict_name RetryTaken = codes "RetryTaken"
+verdict_name Versions = codes "Versions"
 
 -- the line of a packet that came: the number space of its form, its number where it opened, and what became of it
 unfoldable pub piece_text : Option SpaceId → Option ℕ → Verdict → List ℕ
@@ -136,14 +138,16 @@ layer_name Recovery = codes "recovery"
 layer_name Session = codes "session"
 layer_name Ids = codes "ids"
 layer_name Life = codes "life"
+layer_name Store = codes "store"
 
--- the name of the kind of frames with this type, of the kinds that layers are given (RFC 9000, sections 19.3 to 19.5, 19.8 to
+-- the name of the kind of frames with this type, of the kinds that layers are given (RFC 9000, sections 19.3 to 19.5, 19.7 to
 -- 19.11, 19.15, 19.16, 19.19 and 19.20; RFC 9221, section 4); `-` for another one. The types of STREAM frames are those from 0x08 to 0x0f.
 unfoldable pub type_name : ℕ → List ℕ
 type_name type =
     if (type == 0x02) || (type == 0x03) then codes "ACK"
     else if type == 0x04 then codes "RESET_STREAM"
     else if type == 0x05 then codes "STOP_SENDING"
+    else if type == 0x07 then codes "NEW_TOKEN"
     else if type / 8 == 1 then codes "STREAM"
     else if type == 0x10 then codes "MAX_DATA"
     else if type == 0x11 then codes "MAX_STREAM_DATA"
@@ -166,6 +170,7 @@ abbrev pub IsGiven : FrameValue → Type 0
 IsGiven (frames.Ack ack) = Unit {0}
 IsGiven (frames.ResetStream id code size) = Unit {0}
 IsGiven (frames.StopSending id code) = Unit {0}
+IsGiven (frames.NewToken token) = Unit {0}
 IsGiven (frames.Stream id offset fin body) = Unit {0}
 IsGiven (frames.MaxData limit) = Unit {0}
 IsGiven (frames.MaxStreamData id limit) = Unit {0}
@@ -189,6 +194,7 @@ given_text Recovery body = named_text body
 given_text Session body = encode_lower body
 given_text Ids body = named_text body
 given_text Life body = named_text body
+given_text Store body = named_text body
 
 -- the line of what a layer was given: the layer, and what it was
 unfoldable pub gave_text : Layer → List ℕ → List ℕ
@@ -200,6 +206,7 @@ reason_name (TransportError error) = codes "TransportError"
 reason_name (ConnectionClosed close) = codes "ConnectionClosed"
 reason_name (ApplicationClosed close) = codes "ApplicationClosed"
 reason_name TimedOut = codes "TimedOut"
+reason_name VersionMismatch = codes "VersionMismatch"
 
 -- of an error that this end found: its code, and the type of the frame that was at fault
 unfoldable pub error_text : TransportFault → List ℕ
@@ -220,6 +227,7 @@ reason_values (TransportError error) = codes " " ++ error_text error
 reason_values (ConnectionClosed close) = codes " " ++ connection_close_text close.error_code close.frame_type close.reason
 reason_values (ApplicationClosed close) = codes " " ++ application_close_text close.error_code close.reason
 reason_values TimedOut = []
+reason_values VersionMismatch = []
 
 -- a reason for the end
 unfoldable pub reason_text : ConnectionError → List ℕ

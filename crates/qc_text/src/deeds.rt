@@ -138,6 +138,7 @@ fn put_given(out: &mut Vec<u8>, layer: Layer, body: &[u8]) -> Result<(), AllocEr
         Layer::Session => put_hex(out, body),
         Layer::Ids => put_named(out, body),
         Layer::Life => put_named(out, body),
+        Layer::Store => put_named(out, body),
     }
 }
 
@@ -201,7 +202,7 @@ fn put_values(out: &mut Vec<u8>, reason: &ConnectionError) -> Result<(), AllocEr
             out.extend_from_slice(b" ")?;
             put_application_close(out, close.error_code, &close.reason)
         }
-        ConnectionError::TimedOut => Ok(()),
+        ConnectionError::TimedOut | ConnectionError::VersionMismatch => Ok(()),
     }
 }
 

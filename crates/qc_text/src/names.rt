@@ -83,6 +83,8 @@ pub fn verdict_of(verdict: Verdict) -> &'static [u8]
         Verdict::NumberOnly => b"NumberOnly",
         Verdict::AckOnly => b"AckOnly",
         Verdict::Admitted => b"Admitted",
+        Verdict::RetryTaken => b"RetryTaken",
+        Verdict::Versions => b"Versions",
     }
 }
 
@@ -97,6 +99,7 @@ pub fn layer_of(layer: Layer) -> &'static [u8]
         Layer::Session => b"session",
         Layer::Ids => b"ids",
         Layer::Life => b"life",
+        Layer::Store => b"store",
     }
 }
 
@@ -124,6 +127,9 @@ fn type_of(first: u8) -> &'static [u8]
     }
     if first == 0x05 {
         return b"STOP_SENDING";
+    }
+    if first == 0x07 {
+        return b"NEW_TOKEN";
     }
     if first / 8 == 1 {
         return b"STREAM";
@@ -168,6 +174,7 @@ pub fn reason_of(reason: &ConnectionError) -> &'static [u8]
         ConnectionError::ConnectionClosed(_) => b"ConnectionClosed",
         ConnectionError::ApplicationClosed(_) => b"ApplicationClosed",
         ConnectionError::TimedOut => b"TimedOut",
+        ConnectionError::VersionMismatch => b"VersionMismatch",
     }
 }
 

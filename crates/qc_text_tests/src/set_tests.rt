@@ -9,18 +9,22 @@ use std::process::Abort;
 use std::test::Fail;
 
 /// For which values there is a set line, in the order of the lines.
-fn are_set(settings: &Settings) -> [bool; 14] {
+fn are_set(settings: &Settings) -> [bool; 18] {
     [
         settings.random.is_some(),
         settings.time.is_some(),
         settings.local.is_some(),
         settings.remote.is_some(),
         settings.first.is_some(),
+        settings.orig.is_some(),
+        settings.retry.is_some(),
         settings.addr.is_some(),
+        settings.validated.is_some(),
         settings.token.is_some(),
         settings.secret.is_some(),
         settings.limit_initial.is_some(),
         settings.limit_handshake.is_some(),
+        settings.limit_data.is_some(),
         settings.limit_failures.is_some(),
         settings.idle.is_some(),
         settings.mtud.is_some(),
@@ -35,11 +39,15 @@ const EACH_LINE: &[(&str, &str)] = &[
     ("server", "set local -"),
     ("server", "set remote 01"),
     ("server", "set first 02"),
+    ("server", "set orig 03"),
+    ("server", "set retry -"),
     ("server", "set addr c0000201/1"),
+    ("server", "set validated 0"),
     ("client", "set token -"),
     ("server", "set secret 0102030405"),
     ("server", "set limit_initial 0"),
     ("server", "set limit_handshake 0"),
+    ("server", "set limit_data 0"),
     ("server", "set limit_failures 0"),
     ("server", "set idle 0"),
     ("server", "set mtud 0"),
@@ -72,7 +80,7 @@ fn each_set_line_stands_alone(rt: HostRuntime) -> Result<(), Fail> {
 
 /// Every set line that a server has, and one input.
 const EVERY_LINE: &str =
-    "set side server\nset random 000102030405060708090a0b0c0d0e0f101112131415161718191a1b1c1d1e1f\nset time 5\nset local 0a0b\nset remote -\nset first 0102030405060708\nset addr c0000201/443\nset secret 00ff010203\nset limit_initial 2\nset limit_handshake 30\nset limit_failures 18446744073709551615\nset idle 30000\nset mtud 0\nset gso 1\nping 6\n";
+    "set side server\nset random 000102030405060708090a0b0c0d0e0f101112131415161718191a1b1c1d1e1f\nset time 5\nset local 0a0b\nset remote -\nset first 0102030405060708\nset addr c0000201/443\nset secret 00ff010203\nset limit_initial 2\nset limit_handshake 30\nset limit_data 10000\nset limit_failures 18446744073709551615\nset idle 30000\nset mtud 0\nset gso 1\nping 6\n";
 
 /// The values of those lines.
 fn check_every_line(rt: &impl Abort, settings: &Settings) {
@@ -92,6 +100,7 @@ fn check_every_line(rt: &impl Abort, settings: &Settings) {
     assert_eq!(rt; settings.secret, Some([0, 255, 1, 2, 3]));
     assert_eq!(rt; settings.limit_initial, Some(2));
     assert_eq!(rt; settings.limit_handshake, Some(30));
+    assert_eq!(rt; settings.limit_data, Some(10_000));
     assert_eq!(rt; settings.limit_failures, Some(u64::MAX));
     assert_eq!(rt; settings.idle, Some(VarInt::from_u32(30_000)));
     assert_eq!(rt; settings.mtud, Some(false));
@@ -182,6 +191,11 @@ const SET_LINES: &[(&str, bool)] = &[
     ("set remote 0102030405060708", false),
     ("set remote 01020304050607", true),
     ("set first 0102030405060708", true),
+    ("set orig 0102030405060708", true),
+    ("set retry 0102030405060708", true),
+    ("set retry -", true),
+    ("set validated 0", true),
+    ("set validated 1", true),
     ("set addr c0000201/65536", true),
     ("set token -", false),
     ("set token 0", true),
@@ -264,6 +278,92 @@ fn set_lines_stand_once_and_in_order(rt: HostRuntime) -> Result<(), Fail> {
         "set gso 1\nset idle 0",
     ] {
         let text = format!(in rt.alloc(); "set side client\n{lines}\nping 0\n")?;
+        assert_eq!(rt; bad_line(rt.alloc(), text.as_str())?, Some(3), "{lines:?}");
+    }
+    Ok(())
+}
+
+/// A server's set lines, and whether they are bad. Each line is the second of the script.
+const SERVER_LINES: &[(&str, bool)] = &[
+    ("set orig -", false),
+    ("set orig 0102030405060708090a0b0c0d0e0f1011121314", false),
+    ("set orig 0102030405060708090a0b0c0d0e0f101112131415", true),
+    ("set orig 0A", true),
+    ("set orig ", true),
+    ("set orig", true),
+    ("set retry -", false),
+    ("set retry 0102030405060708090a0b0c0d0e0f1011121314", false),
+    ("set retry 0102030405060708090a0b0c0d0e0f101112131415", true),
+    ("set retry 1", true),
+    ("set retry ", true),
+    ("set validated 0", false),
+    ("set validated 1", false),
+    ("set validated 2", true),
+    ("set validated 01", true),
+    ("set validated -", true),
+    ("set validated ", true),
+    ("set validated", true),
+];
+
+/// Whether a script of a server with this line is refused at that line.
+fn is_bad_on_server(alloc: Global, line: &str) -> Result<bool, Fail> {
+    let text = format!(in alloc; "set side server\n{line}\nping 0\n")?;
+    Ok(bad_line(alloc, text.as_str())? == Some(2))
+}
+
+#[test]
+fn set_lines_of_a_server_have_bounds(rt: HostRuntime) -> Result<(), Fail> {
+    for (line, bad) in SERVER_LINES {
+        assert_eq!(rt; is_bad_on_server(rt.alloc(), line)?, *bad, "{line:?}");
+    }
+    Ok(())
+}
+
+/// What a server is told of a Retry: the id before it, its own id, and whether the address is validated.
+type AboutRetry = (Option<ConnectionId>, Option<ConnectionId>, Option<bool>);
+
+/// What settings tell of a Retry.
+fn told_of_retry(settings: &Settings) -> AboutRetry {
+    (settings.orig, settings.retry, settings.validated)
+}
+
+/// What a server's lines tell of a Retry.
+fn about_retry(alloc: Global, lines: &str) -> Result<AboutRetry, Fail> {
+    let script = script_of(alloc, "server", lines)?;
+    Ok(told_of_retry(&script.settings))
+}
+
+#[test]
+fn a_server_is_told_of_its_retry(rt: HostRuntime) -> Result<(), Fail> {
+    let ids = (
+        Some(ConnectionId::new(&[1, 2])),
+        Some(ConnectionId::new(&[])),
+        None,
+    );
+    assert_eq!(rt; about_retry(rt.alloc(), "set orig 0102\nset retry -")?, ids);
+    assert_eq!(rt;
+        about_retry(rt.alloc(), "set validated 1")?,
+        (None, None, Some(true))
+    );
+    assert_eq!(rt;
+        about_retry(rt.alloc(), "set validated 0")?,
+        (None, None, Some(false))
+    );
+    Ok(())
+}
+
+// Each text's third line comes before its second in the order of set lines, or is the same.
+#[test]
+fn lines_about_a_retry_stand_in_order(rt: HostRuntime) -> Result<(), Fail> {
+    for lines in [
+        "set orig 01\nset orig 01",
+        "set orig 01\nset first 02",
+        "set retry 01\nset orig 02",
+        "set addr c0000201/1\nset retry 01",
+        "set validated 1\nset addr c0000201/1",
+        "set secret 0102030405\nset validated 1",
+    ] {
+        let text = format!(in rt.alloc(); "set side server\n{lines}\nping 0\n")?;
         assert_eq!(rt; bad_line(rt.alloc(), text.as_str())?, Some(3), "{lines:?}");
     }
     Ok(())

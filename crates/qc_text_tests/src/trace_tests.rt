@@ -178,7 +178,7 @@ const GIVEN_TO_IDS: &[(&[u8], &str)] = &[
 const GIVEN_TO_STREAMS: &[(&[u8], &str)] = &[
     (&[4, 0, 7, 5], "\ngave streams RESET_STREAM/04000705\n"),
     (&[5, 0, 7], "\ngave streams STOP_SENDING/050007\n"),
-    (&[7, 1, 0x68], "\ngave streams -/070168\n"),
+    (&[6, 0, 0], "\ngave streams -/060000\n"),
     (&[8, 0, 0x68, 0x69], "\ngave streams STREAM/08006869\n"),
     (
         &[0x0f, 4, 1, 2, 0x68, 0x69],
@@ -194,6 +194,9 @@ const GIVEN_TO_STREAMS: &[(&[u8], &str)] = &[
     (&[0x31, 1, 0x68], "\ngave streams DATAGRAM/310168\n"),
     (&[0x32, 5], "\ngave streams -/3205\n"),
 ];
+
+/// What the store is given: a NEW_TOKEN.
+const GIVEN_TO_STORE: &[(&[u8], &str)] = &[(&[7, 1, 0x68], "\ngave store NEW_TOKEN/070168\n")];
 
 #[test]
 fn frames_that_layers_are_given(rt: HostRuntime) -> Result<(), Fail> {
@@ -214,6 +217,9 @@ fn frames_that_layers_are_given(rt: HostRuntime) -> Result<(), Fail> {
     }
     for (bytes, line) in GIVEN_TO_IDS {
         assert!(rt; is_given(rt.alloc(), Layer::Ids, bytes, line)?, "{line}");
+    }
+    for (bytes, line) in GIVEN_TO_STORE {
+        assert!(rt; is_given(rt.alloc(), Layer::Store, bytes, line)?, "{line}");
     }
     given_frames_have_their_names();
     Ok(())

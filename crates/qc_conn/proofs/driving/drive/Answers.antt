@@ -11,18 +11,22 @@ use Rattle.qc_laws.proofs.FramesAcked.{run_acks_frames}
 use Rattle.qc_laws.proofs.HarmlessBytes.{run_harmless}
 use Rattle.qc_laws.proofs.IdsFold.{run_folds_ids}
 use Rattle.qc_laws.proofs.IdsHold.{run_ids}
+use Rattle.qc_laws.proofs.InitialKeys.{run_initial_keys}
 use Rattle.qc_laws.proofs.InitialLeft.{run_leaves}
 use Rattle.qc_laws.proofs.KeysFold.{run_folds_keys, run_keeps_epochs, run_last}
 use Rattle.qc_laws.proofs.KeysHold.{run_keys_hold}
 use Rattle.qc_laws.proofs.LengthsHold.{run_keeps_length}
 use Rattle.qc_laws.proofs.MarksTold.{none_each_told, ran_each_told, run_each_told}
+use Rattle.qc_laws.proofs.Mismatches.{none_mismatches, ran_mismatches, run_mismatches}
 use Rattle.qc_laws.proofs.PathsHold.{path_run}
 use Rattle.qc_laws.proofs.PostsFold.{run_posts}
 use Rattle.qc_laws.proofs.PostsSealed.{run_seals}
 use Rattle.qc_laws.proofs.PostsTaken.{run_takes}
 use Rattle.qc_laws.proofs.ReadsHold.{run_reads, run_within}
+use Rattle.qc_laws.proofs.Reasons.{run_causes}
 use Rattle.qc_laws.proofs.WritesHold.{run_writes}
 use Rattle.qc_laws.proofs.Recovers.{run_recovers, run_settles_once}
+use Rattle.qc_laws.proofs.RetriesHold.{run_renews}
 use Rattle.qc_laws.proofs.SealRuns.{run_seals_answers}
 use Rattle.qc_laws.proofs.Steps.{ran_none}
 use Rattle.qc_laws.proofs.StepsTell.{run_each_tells}
@@ -38,8 +42,7 @@ use Rattle.qc_state.specs.View.{View}
 use Rattle.qc_conn.specs.Seen.{KeepsCredit}
 use Rattle.qc_conn.specs.declared.driving.DriveError.{DriveError}
 use Rattle.qc_conn.proofs.RunsPlain.{ran_plain, run_plain, run_stays}
-use Rattle.qc_conn.proofs.Stores.{store_kept, store_part, store_run}
-use Rattle.qc_state.specs.Headline.{deeds_of}
+use Rattle.qc_conn.proofs.Stores.{none_stored}
 use Rattle.qc_conn.proofs.driving.drive.Goals as goal
 
 -- what holds of each run holds of a trace, if there is one
@@ -176,6 +179,21 @@ returns-clause-epochs g c = λ last. of_trace _ _ _ _ c.drive_all.result _ c.dri
 pub returns-clause-last : goal.returns-clause-last
 returns-clause-last g c = λ last. of_end _ _ _ _ c.drive_all.result _ c.drive_all.ensures.run (λ trace run. run_last _ 0 _ _ trace _ run last)
 
+pub returns-clause-retry : goal.returns-clause-retry
+returns-clause-retry g c = of_trace _ _ _ _ c.drive_all.result _ c.drive_all.ensures.run (λ trace run. run_renews _ 0 _ _ trace _ run)
+
+pub returns-clause-initial_keys : goal.returns-clause-initial_keys
+returns-clause-initial_keys g c named = of_end _ _ _ _ c.drive_all.result _ c.drive_all.ensures.run (λ trace run. run_initial_keys _ 0 _ _ trace _ run named)
+
+pub returns-clause-mismatch : goal.returns-clause-mismatch
+returns-clause-mismatch g c = of_trace _ _ _ _ c.drive_all.result _ c.drive_all.ensures.run (λ trace run. run_mismatches _ 0 _ _ trace _ run)
+
+pub returns-clause-mismatch_part : goal.returns-clause-mismatch_part
+returns-clause-mismatch_part g c = of_part _ _ _ c.drive_all.result _ c.drive_all.ensures.part (λ trace run. ran_mismatches _ 0 _ _ trace run)
+
+pub returns-clause-update_errors : goal.returns-clause-update_errors
+returns-clause-update_errors g c = of_trace _ _ _ _ c.drive_all.result _ c.drive_all.ensures.run (λ trace run. run_causes _ 0 _ _ trace _ run)
+
 pub returns-clause-crypto : goal.returns-clause-crypto
 returns-clause-crypto g c = λ ends. of_trace _ _ _ _ c.drive_all.result _ c.drive_all.ensures.run (λ trace run. run_keeps_bytes _ 0 _ _ trace _ run ends)
 
@@ -252,12 +270,9 @@ returns-then-is_failed-clause-once_part g c = λ _. none_tells_once _ _ c.new.en
 pub returns-then-is_failed-clause-marks_part : goal.returns-then-is_failed-clause-marks_part
 returns-then-is_failed-clause-marks_part g c = none_each_told _ _ _ c.new.ensures
 
+pub returns-then-is_failed-clause-mismatch_part : goal.returns-then-is_failed-clause-mismatch_part
+returns-then-is_failed-clause-mismatch_part g c = none_mismatches _ c.new.ensures
+
 -- the store was given nothing
-pub returns-clause-store : goal.returns-clause-store
-returns-clause-store g c = store_run _ c.drive_all.result _
-
-pub returns-clause-store_part : goal.returns-clause-store_part
-returns-clause-store_part g c = store_part _ c.drive_all.result _
-
 pub returns-then-is_failed-clause-store_part : goal.returns-then-is_failed-clause-store_part
-returns-then-is_failed-clause-store_part g c = λ name. store_kept g.G.TokenStore.inserted name (deeds_of c.new.result) _
+returns-then-is_failed-clause-store_part g c = none_stored g.G.TokenStore.inserted _ _ _ _ c.new.ensures

@@ -1,6 +1,7 @@
 use Rattle.std.proofs.Common.{ap, length, arith, refl, sym, ◌∙◌}
 use Rattle.qc_conn.proofs.Refusals.{next_good, takes_none, takes_next, refused_at}
 use Rattle.qc_laws.proofs.Steps.{run_empty, ran_kept, run_next, added_length, ran}
+use Rattle.qc_conn.proofs.Stores.{named_more, named_step, none_yet, part_stored, refused_stored, run_stored}
 use Rattle.qc_conn.proofs.Counting.{none_counted, one_counted, counted_before}
 use Rattle.qc_conn.proofs.driving.drive_all.Goals as goal
 
@@ -13,6 +14,8 @@ loop-input-init g c = record {
   taken = takes_none _ _ _ _ c.new-trace.ensures;
   alive = c.requires.alive;
   steps = none_counted _ _ c.steps-before.ensures.fits c.new-trace.ensures;
+  name = refl;
+  store = none_yet g.G.TokenStore.inserted _ _ _ c.new-trace.ensures;
 }
 
 -- this input asks for a call that can be made
@@ -33,6 +36,8 @@ loop-input-preserved g c = record {
       (sym c.refusal.ensures ∙ c.in_default.is) c.loop-input.invariant.taken c.in-Ok.ensures.adds;
   alive = c.in-Ok.ensures.alive;
   steps = one_counted _ _ _ _ _ c.loop-input.invariant.steps c.in-Ok.ensures.count (added_length _ _ _ _ _ _ _ c.in-Ok.ensures.adds);
+  name = c.in-Ok.ensures.name ∙ c.loop-input.invariant.name;
+  store = run_stored g.G.TokenStore.inserted _ _ _ _ _ _ c.loop-input.invariant.store (named_step g.G.TokenStore.inserted _ _ _ _ _ _ c.loop-input.invariant.name c.in-Ok.ensures.store);
 }
 
 -- the steps before an input that is refused stand
@@ -50,3 +55,11 @@ returns-in-Err-clause-count_part g c = counted_before _ _ _ _ _ _ _ c.loop-input
 
 pub returns-in-Some-clause-count_part : goal.returns-in-Some-clause-count_part
 returns-in-Some-clause-count_part g c = counted_before _ _ _ _ _ _ _ c.loop-input.invariant.steps refl refl c.loop-input.invariant.count c.loop-input-test.true
+
+-- the store has the tokens of the steps before
+pub returns-in-Some-clause-store_part : goal.returns-in-Some-clause-store_part
+returns-in-Some-clause-store_part g c = refused_stored g.G.TokenStore.inserted _ _ _ _ _ c.loop-input.invariant.store
+
+pub returns-in-Err-clause-store_part : goal.returns-in-Err-clause-store_part
+returns-in-Err-clause-store_part g c = part_stored g.G.TokenStore.inserted _ _ _ _ _ _ c.in-Err.ensures.kept c.loop-input.invariant.store
+    (named_more g.G.TokenStore.inserted _ _ _ _ c.loop-input.invariant.name c.in-Err.ensures.store_part)

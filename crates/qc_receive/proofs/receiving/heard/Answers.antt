@@ -29,3 +29,9 @@ pub returns-else-lets_in-clause-answer : goal.returns-else-lets_in-clause-answer
 returns-else-lets_in-clause-answer g c =
     let cut = cut_some c.cutting_of-cutting.result c.args.bytes c.in_ok-cut.field-0 c.in-Some.first c.in-Some.behind c.in-Some.is c.in_ok-cut.ensures.some in
     readable_is c.cutting_of-cutting.result _ c.args.bytes.items c.in-Some.first (rest_of c.in-Some.behind) c.cutting_of-cutting.ensures.cuts cut.0
+
+-- and so does one that counts
+pub returns-in_ok-pieces-in-Some-clause-answer : goal.returns-in_ok-pieces-in-Some-clause-answer
+returns-in_ok-pieces-in-Some-clause-answer g c =
+    let cut = cut_some c.cutting_of-cutting.result c.args.bytes c.in_ok-cut.field-0 c.in-Some.first c.in-Some.behind c.in-Some.is c.in_ok-cut.ensures.some in
+    readable_is c.cutting_of-cutting.result _ c.args.bytes.items c.in-Some.first (rest_of c.in-Some.behind) c.cutting_of-cutting.ensures.cuts cut.0

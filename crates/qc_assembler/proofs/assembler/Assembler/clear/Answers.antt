@@ -13,9 +13,9 @@ none_kept = record { apart = tt; count = refl }
 pub invariant_of-self : goal.invariant_of-self
 unfolding AllUnread flat
 invariant_of-self c =
-    rw c.clear.ensures.empty
+    rw (c.clear.ensures, c.clear-2.ensures.empty)
     (tree_whole c.self.inside.read 0 c.self.inside.ahead.entries None [] refl (record { kept = none_kept; ascending = c.self.invariant.sound.ascending; unread = tt }))
 
 pub returns : goal.returns
 unfolding assembled discarded flat entries_with
-returns c = rw (c.clear.ensures.empty, ← c.self.view_is) refl
+returns c = rw (c.clear.ensures, c.clear-2.ensures.empty, ← c.self.view_is) refl

@@ -1,32 +1,52 @@
-use Rattle.std.proofs.Common.{◌∙◌, ℕ, List, ap, sym, arith, refl}
-use Rattle.qc_assembler.specs.Assembly.{Assembly, inserted}
+use Rattle.std.proofs.Common.{◌∙◌, ◌+◌, ℕ, List, Option, length, ap, sym, arith, refl}
+use Rattle.qc_assembler.specs.Assembly.{Assembly, bytes_of, inserted}
 use Rattle.qc_assembler.specs.Ahead.{assembled}
+use Rattle.qc_assembler.specs.Waiting.{entries_with}
 use Rattle.qc_assembler.proofs.Outcomes.{on_ok_map, on_err_map, where_ok}
-use Rattle.qc_assembler.proofs.FrontPart.{next_whole, next_inserted, next_few, tree_whole, tree_view}
+use Rattle.qc_assembler.proofs.FrontPart.{followed_whole, more_few, more_inserted, tree_whole, tree_view}
 use Rattle.qc_assembler.proofs.assembler.Assembler.insert.Goals as goal
+
+pub follow-requires-clause-some : goal.follow-requires-clause-some
+follow-requires-clause-some c = c.if-is_next.ensures.some refl
+
+pub follow-requires-clause-fits : goal.follow-requires-clause-fits
+follow-requires-clause-fits c =
+    let place = c.if-is_next.ensures.place refl in
+    omega (arith, place, c.requires)
 
 pub invariant_of-self : goal.invariant_of-self
 invariant_of-self c =
     let next = c.if-is_next.ensures in
-    let fits = c.requires in
     let place = next.place refl in
-    next_whole c.self.inside.read c.self.inside.joined c.self.inside.ahead.entries c.self.inside.front c.args.bytes c.self.inside.parts.entries (next.ranges refl) (next.front refl) (next.parts refl)
-    (next.some refl) (omega arith) c.self.invariant
+    followed_whole c.follow.result c.self.inside.read c.self.inside.joined c.self.inside.ahead.entries c.self.inside.front c.follow.new.front c.args.bytes c.self.inside.parts.entries (next.ranges refl) (next.parts refl)
+    (next.some refl) (omega (arith, place, c.requires)) c.follow.ensures.ok c.follow.ensures.err c.self.invariant
 
 pub returns-then-is_next-clause-came : goal.returns-then-is_next-clause-came
 returns-then-is_next-clause-came c =
     let next = c.if-is_next.ensures in
-    next_inserted c.self.inside.read c.self.inside.ahead.entries c.self.inside.front c.args.bytes c.self.inside.parts.entries (next.ranges refl) (next.front refl) (next.parts refl)
-    ∙ ap (λ (a : Assembly). inserted c.self.inside.read c.args.bytes a) c.self.view_is
-    ∙ ap (λ (i : ℕ). inserted i c.args.bytes c.args.self.now) (sym (next.place refl))
+    on_ok_map c.follow.result _ _ c.follow.ensures.ok
+    (λ is.
+    more_inserted c.self.inside.read c.self.inside.ahead.entries c.self.inside.front c.follow.new.front c.args.bytes c.self.inside.parts.entries (next.ranges refl) (next.parts refl) is
+    ∙ ap (λ (a : Assembly). inserted (c.self.inside.read + length (bytes_of c.self.inside.front)) c.args.bytes a) c.self.view_is
+    ∙ ap (λ (i : ℕ). inserted i c.args.bytes c.args.self.now) (sym (next.place refl)))
 
 pub returns-then-is_next-clause-few : goal.returns-then-is_next-clause-few
 returns-then-is_next-clause-few c =
     let next = c.if-is_next.ensures in
-    let came = next_inserted c.self.inside.read c.self.inside.ahead.entries c.self.inside.front c.args.bytes c.self.inside.parts.entries (next.ranges refl) (next.front refl) (next.parts refl)
-    ∙ ap (λ (a : Assembly). inserted c.self.inside.read c.args.bytes a) c.self.view_is
-    ∙ ap (λ (i : ℕ). inserted i c.args.bytes c.args.self.now) (sym (next.place refl)) in
-    next_few c.self.inside.read c.self.inside.ahead.entries c.args.bytes c.self.inside.parts.entries (inserted c.args.offset c.args.bytes c.args.self.now) (next.some refl) came
+    on_ok_map c.follow.result _ _ c.follow.ensures.ok
+    (λ is.
+    more_few c.self.inside.read c.self.inside.ahead.entries c.self.inside.front c.follow.new.front c.args.bytes c.self.inside.parts.entries (inserted c.args.offset c.args.bytes c.args.self.now) (next.some refl) is
+    (more_inserted c.self.inside.read c.self.inside.ahead.entries c.self.inside.front c.follow.new.front c.args.bytes c.self.inside.parts.entries (next.ranges refl) (next.parts refl) is
+    ∙ ap (λ (a : Assembly). inserted (c.self.inside.read + length (bytes_of c.self.inside.front)) c.args.bytes a) c.self.view_is
+    ∙ ap (λ (i : ℕ). inserted i c.args.bytes c.args.self.now) (sym (next.place refl))))
+
+pub returns-then-is_next-clause-many : goal.returns-then-is_next-clause-many
+returns-then-is_next-clause-many c many = absurd (c.follow.ensures.few many)
+
+pub returns-then-is_next-clause-err : goal.returns-then-is_next-clause-err
+returns-then-is_next-clause-err c =
+    on_err_map c.follow.result _ _ c.follow.ensures.err
+    (λ same. ap (λ (f : Option (List ℕ)). assembled c.self.inside.read c.self.inside.ahead.entries (entries_with c.self.inside.read f c.self.inside.parts.entries)) same ∙ c.self.view_is)
 
 pub invariant_of-self-2 : goal.invariant_of-self-2
 invariant_of-self-2 c =

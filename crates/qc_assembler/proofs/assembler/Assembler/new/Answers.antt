@@ -15,8 +15,8 @@ unfolding AreRanges AllUnread flat
 none_sound = record { kept = none_kept; ascending = tt; unread = tt }
 
 pub invariant_of-result : goal.invariant_of-result
-invariant_of-result c = rw (c.new.ensures.empty, c.new-2.ensures.empty) (tree_whole 0 0 [] None [] refl none_sound)
+invariant_of-result c = rw (c.new.ensures.empty, c.new-2.ensures.empty, c.new-3.ensures) (tree_whole 0 0 [] None [] refl none_sound)
 
 pub returns : goal.returns
 unfolding nothing assembled flat listed entries_with
-returns c = rw (c.new.ensures.empty, c.new-2.ensures.empty) refl
+returns c = rw (c.new.ensures.empty, c.new-2.ensures.empty, c.new-3.ensures) refl

@@ -2,6 +2,8 @@ use Rattle.qc_conn.proofs.NewEnds.{first_ends, first_last, first_told}
 use Rattle.qc_conn.proofs.Marks.{new_mark}
 use Rattle.qc_conn.proofs.NewLaws.{first_acks, first_kept, first_new, first_streams, first_timer, first_unposted, first_used}
 use Rattle.qc_conn.proofs.NewIds.{first_new_ids}
+use Rattle.qc_conn.proofs.NewKeys.{first_initial_keys}
+use Rattle.std.proofs.Common.{refl}
 use Rattle.qc_conn.proofs.RunsPlain.{first_plain}
 use Rattle.qc_state.specs.View.{ideal}
 use Rattle.qc_conn.proofs.connection.Connection.new_client.Goals as goal
@@ -57,3 +59,7 @@ returns-clause-alive g c = new_mark (ideal g.U.Random.Rng.stream c.in_ok-core.co
 -- its ids are new
 pub returns-clause-new_ids : goal.returns-clause-new_ids
 returns-clause-new_ids g c = first_new_ids g.U.Random.Rng.stream _ _ _ _ c.args.setup.remote c.args.setup.first_cid _ _ _ c.args.now c.in_ok-core.core c.in_ok-core.ensures.made
+
+-- its Initial keys are those of the destination id of its first packets
+pub returns-clause-initial_keys : goal.returns-clause-initial_keys
+returns-clause-initial_keys g c = first_initial_keys g.U.Random.Rng.stream _ _ _ _ c.args.setup.remote c.args.setup.first_cid _ _ _ c.args.now c.in_ok-core.core c.in_ok-core.ensures.made refl refl
