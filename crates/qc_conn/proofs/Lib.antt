@@ -13,5 +13,6 @@ pub mod Posting
 mod Sealing
 mod Stores
 pub mod StreamCalls
+pub mod TokensStored
 pub mod MarkSteps
 mod Marks

@@ -33,7 +33,7 @@ ghost use Rattle.qc_laws.specs.UpdateLaws.{AreLast};
 ghost use Rattle.qc_laws.specs.IdLaws.{CarriesUsed};
 ghost use Rattle.qc_laws.specs.PostLaws.{HasNewDatagrams};
 ghost use Rattle.qc_laws.specs.ReadLaws.{HasNewStreams};
-ghost use Rattle.qc_laws.specs.RetryLaws.{HasInitialKeys};
+ghost use Rattle.qc_laws.specs.RetryLaws.{HasSpaceKeys};
 ghost use Rattle.qc_laws.specs.StreamLaws.{IsUnread};
 ghost use Rattle.qc_laws.specs.TimerLaws.{TimerHolds};
 ghost use Rattle.qc_state.specs.Timers.{has_come, next_timeout};
@@ -130,7 +130,7 @@ impl<U: Suite> Connection<U> {
         ensures datagrams { IfOk result (λ c. HasNewDatagrams (ideal U.Random.stream c.core)) }
         ensures ids { IfOk result (λ c. CarriesUsed (ideal U.Random.stream c.core)) }
         ensures new_ids { IfOk result (λ c. HasNewIds (ideal U.Random.stream c.core)) }
-        ensures initial_keys { IfOk result (λ c. HasInitialKeys ⟦<U as Means>⟧.meaning (ideal U.Random.stream c.core)) }
+        ensures space_keys { IfOk result (λ c. HasSpaceKeys ⟦<U as Means>⟧.meaning (ideal U.Random.stream c.core)) }
         ensures alive { IfOk result (λ c. c.failed ≡ false) }
         ensures name { IfOk result (λ c. c.name ≡ string_bytes setup.server_name) }
         ensures store { OnOk result (store.new ≡ G.after_take store.old (string_bytes setup.server_name)) }
@@ -170,7 +170,7 @@ impl<U: Suite> Connection<U> {
         ensures datagrams { IfOk result (λ c. HasNewDatagrams (ideal U.Random.stream c.core)) }
         ensures ids { IfOk result (λ c. CarriesUsed (ideal U.Random.stream c.core)) }
         ensures new_ids { IfOk result (λ c. HasNewIds (ideal U.Random.stream c.core)) }
-        ensures initial_keys { IfOk result (λ c. HasInitialKeys ⟦<U as Means>⟧.meaning (ideal U.Random.stream c.core)) }
+        ensures space_keys { IfOk result (λ c. HasSpaceKeys ⟦<U as Means>⟧.meaning (ideal U.Random.stream c.core)) }
         ensures alive { IfOk result (λ c. c.failed ≡ false) }
     {
         let core = qc_making::new_server(alloc, setup, now)?;

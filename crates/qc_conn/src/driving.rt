@@ -15,7 +15,7 @@ ghost use Rattle.qc_laws.specs.EndLaws.{Ends};
 ghost use Rattle.qc_conn.specs.Stored.{StoresMore, StoresPart, StoresStep, stored, tokens_in};
 ghost use Rattle.qc_laws.specs.EventLaws.{EachTells, OnlyDoneWaits, TellsOnce, untold_of};
 ghost use Rattle.qc_laws.specs.InitialLaws.{LeavesInitial};
-ghost use Rattle.qc_laws.specs.KeyLaws.{KeysHold};
+ghost use Rattle.qc_laws.specs.KeyLaws.{CountsBehind, KeysHold};
 ghost use Rattle.qc_laws.specs.MarkLaws.{EachTold};
 ghost use Rattle.qc_laws.specs.IdLaws.{FoldsIds, IdsHold};
 ghost use Rattle.qc_laws.specs.PathLaws.{PathHolds, all_from};
@@ -23,8 +23,9 @@ ghost use Rattle.qc_laws.specs.PieceLaws.{EachTellsPieces};
 ghost use Rattle.qc_state.specs.Headline.{deeds_of, EachRises, EachAdmitted, EachAcksKnown, Harmless, LifeRises, OnlyCloses, LosesOnce};
 ghost use Rattle.qc_laws.specs.PostLaws.{FoldsPosts, HasNewDatagrams, SealsSent, TakesTrace};
 ghost use Rattle.qc_laws.specs.ReadLaws.{HasNewStreams, ReadsTrace};
-ghost use Rattle.qc_laws.specs.ReasonLaws.{EachCauses};
-ghost use Rattle.qc_laws.specs.RetryLaws.{EachMismatch, HasInitialKeys, TakesOneRetry};
+ghost use Rattle.qc_laws.specs.ReasonLaws.{ClosesBehind, EachCauses};
+ghost use Rattle.qc_state.specs.Life.{rank_of};
+ghost use Rattle.qc_laws.specs.RetryLaws.{AreOfInputs, EachMismatch, HasSpaceKeys, TakesOneRetry};
 ghost use Rattle.qc_laws.specs.WriteLaws.{SealsWritten};
 ghost use Rattle.qc_laws.specs.SealLaws.{EachSealsAnswer};
 ghost use Rattle.qc_laws.specs.RecoveryLaws.{EachSettlesOnce, Recovers};
@@ -340,6 +341,7 @@ pub fn drive<U: Suite, G: TokenStore>(
     ensures paths { IfOk result (λ trace. PathHolds (all_from connection.old.core.paths.current.remote inputs.now) (deeds_of trace) connection.old.core.paths.current connection.new.core.paths.current) }
     ensures ids { OnOk result (IdsHold (ideal U.Random.stream connection.old.core) (ideal U.Random.stream connection.new.core)) }
     ensures keys { KeysHold connection.old.core.keys → OnOk result (KeysHold connection.new.core.keys) }
+    ensures counts { IfOk result (λ trace. CountsBehind (deeds_of trace) connection.old.core.keys connection.new.core.keys) }
     ensures ends { Ends (ideal U.Random.stream connection.old.core) → OnOk result (Ends (ideal U.Random.stream connection.new.core)) }
     ensures initial { IfOk result (λ trace. LeavesInitial (deeds_of trace) (ideal U.Random.stream connection.old.core) (ideal U.Random.stream connection.new.core)) }
     ensures harmless { IfOk result (λ trace. Harmless (ideal U.Random.stream connection.old.core) inputs.now trace (ideal U.Random.stream connection.new.core)) }
@@ -369,23 +371,27 @@ pub fn drive<U: Suite, G: TokenStore>(
     ensures settles { Ends (ideal U.Random.stream connection.old.core) → IfOk result (λ trace. EachSettlesOnce (deeds_of trace) (ideal U.Random.stream connection.old.core) (ideal U.Random.stream connection.new.core)) }
 
     // The 1-RTT keys are what their own steps leave, each of which may be made: those of the packets that were sealed, of those that were
-    // opened, of the ACKs that came, and of updates that this end may make, in order, none left out and none made up. So their epoch never falls, and packets are sealed under
-    // keys of epochs that never do.
+    // opened, of the ACKs that came, and of updates that this end may make, in order, none left out and none made up. So their epoch never falls,
+    // packets are sealed under keys of epochs that never do, and each while fewer were sealed in its epoch than its key may seal.
     ensures updates { AreLast (ideal U.Random.stream connection.old.core) → IfOk result (λ trace. FoldsKeys trace (ideal U.Random.stream connection.old.core) (ideal U.Random.stream connection.new.core)) }
     ensures epochs { AreLast (ideal U.Random.stream connection.old.core) → IfOk result (λ trace. KeepsEpochs trace (ideal U.Random.stream connection.old.core) (ideal U.Random.stream connection.new.core)) }
     ensures last { AreLast (ideal U.Random.stream connection.old.core) → OnOk result (AreLast (ideal U.Random.stream connection.new.core)) }
 
-    // A Retry is taken only by a client that wasn't answered: at most one, and none once a packet was accepted. Initial keys are those that the
-    // session gives of the destination id of the client's first packets, or of the source id of that Retry. And VersionMismatch ends the
-    // connection only behind a list of versions without this end's.
+    // A Retry is taken only by a client that wasn't answered: at most one, and none once a packet was accepted; nor does a list of versions count
+    // then. Each came with the inputs: a Retry whose tag fits leaves its source id and its token, and such a list lacks this end's version.
+    // Initial keys are those that the session gives of the destination id of the client's first packets, or of the source id of that Retry, and
+    // Handshake keys those that it gave as it wrote. And VersionMismatch ends the connection only behind a list of versions without this end's.
     ensures retry { IfOk result (λ trace. TakesOneRetry (deeds_of trace) (ideal U.Random.stream connection.old.core) (ideal U.Random.stream connection.new.core)) }
-    ensures initial_keys { HasInitialKeys ⟦<U as Means>⟧.meaning (ideal U.Random.stream connection.old.core) → OnOk result (HasInitialKeys ⟦<U as Means>⟧.meaning (ideal U.Random.stream connection.new.core)) }
+    ensures retries { IfOk result (λ trace. AreOfInputs ⟦<U as Means>⟧.meaning inputs.now (deeds_of trace) (ideal U.Random.stream connection.old.core) (ideal U.Random.stream connection.new.core)) }
+    ensures space_keys { HasSpaceKeys ⟦<U as Means>⟧.meaning (ideal U.Random.stream connection.old.core) → OnOk result (HasSpaceKeys ⟦<U as Means>⟧.meaning (ideal U.Random.stream connection.new.core)) }
     ensures mismatch { IfOk result (λ trace. EachMismatch trace) }
     ensures mismatch_part { IfErr result (λ e. EachMismatch e.done) }
 
     // This end ends the connection with KEY_UPDATE_ERROR only right behind a packet that shows an update which its sender wasn't allowed to make,
-    // or where the session refuses with that code the bytes that it was just given, or the peer's parameters.
+    // or where the session refuses with that code the bytes that it was just given, or the peer's parameters. And right behind such a packet, or
+    // one whose reserved bits aren't 0, an open connection is closed.
     ensures update_errors { IfOk result (λ trace. EachCauses ⟦<U as Means>⟧.meaning 0 (ideal U.Random.stream connection.old.core) inputs.now trace (ideal U.Random.stream connection.new.core)) }
+    ensures faults { IfOk result (λ trace. ClosesBehind (rank_of connection.old.core.life.state) (deeds_of trace)) }
 
     // The session is given the bytes of each space's CRYPTO stream in order, each once: from a new connection on the front of what came.
     ensures streams { (id : SpaceId) → IfOk result (λ trace. GivesStream id (deeds_of trace) (ideal U.Random.stream connection.old.core) (ideal U.Random.stream connection.new.core)) }

@@ -15,7 +15,7 @@ mod views;
 pub use connection::{Connection, FirstError};
 pub use datagrams::{Datagrams, SendDatagramError};
 pub use driving::{BadWhy, DriveError, DriveKind, drive};
-pub use laws::text_tells_run;
+pub use laws::{text_tells_run, tokens_are_stored};
 pub use parts::Parts;
 // What the calls name, with all that stands in it.
 pub use bytes::{Bytes, BytesMut};

@@ -85,7 +85,7 @@ module _ {H P : Type 0} where
       dropped_by_test false = refl
 
   -- each step keeps the range
-  step_held : (x : KeyStep H P) (k : Option (OneRttKeys H P)) → MayStep x k → epoch_with k ≤ 18446744073709551615 → epoch_with (key_step x k) ≤ 18446744073709551615
+  pub step_held : (x : KeyStep H P) (k : Option (OneRttKeys H P)) → MayStep x k → epoch_with k ≤ 18446744073709551615 → epoch_with (key_step x k) ≤ 18446744073709551615
   step_held (Given keys) k may held = omega (arith, ap (λ (r : Ring). r.epoch) may.1)
   step_held (Sealed n) k may held = omega (arith, sealed_epoch n k, held)
   step_held (Opened n which fresh) k may held = opened_held which n fresh k held

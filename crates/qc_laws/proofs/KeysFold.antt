@@ -1,5 +1,5 @@
 -- Over a run the 1-RTT keys are the fold of their steps, and their epochs never fall.
-use Rattle.std.proofs.Common.{◌≡◌, ℕ, ◌+◌, ◌≤◌, ◌⊎◌, inl, inr, List, [], ◌∷◌, ◌++◌, refl, ap, sym, ◌∙◌, subst, Bool, true, false, Option, Some, None, if◌then◌else◌, append_assoc, append-nil}
+use Rattle.std.proofs.Common.{◌≡◌, ℕ, ◌+◌, ◌≤◌, ◌<◌, IsSome, ◌⊎◌, inl, inr, List, [], ◌∷◌, ◌++◌, refl, ap, sym, ◌∙◌, subst, Bool, true, false, Option, Some, None, if◌then◌else◌, append_assoc, append-nil}
 use Rattle.std.specs.Prelude.{◌&&◌, is_some, option_map}
 use Rattle.qc_base.specs.declared.side.SpaceId.{SpaceId}
 use Rattle.qc_base.specs.declared.side.SpaceId.TheVariants.{Initial, Handshake, «Data»}
@@ -31,9 +31,9 @@ use Rattle.qc_state.specs.declared.life.Life.{Life}
 use Rattle.qc_state.specs.declared.trace.Step.{Step}
 use Rattle.qc_state.specs.Forms.{is_early, number_space}
 use Rattle.qc_state.specs.Headline.{deeds_of}
-use Rattle.qc_state.specs.Keys.{DataKeys, HandshakeKeys, NewKeys, NoKeys, epoch_in, epoch_with, failure_counted, key_acked, key_discarded, key_opened, key_used, keys_dropped, keys_given, reaches_limit, ring_of, ring_used, usage_of, key_updated, ring_acked, ring_discarded, ring_opened, ring_usage, initial_renewed}
+use Rattle.qc_state.specs.Keys.{DataKeys, HandshakeKeys, NewKeys, NoKeys, epoch_in, epoch_with, failure_counted, key_acked, key_discarded, key_opened, key_used, keys_dropped, keys_given, reaches_limit, ring_of, ring_used, usage_of, key_updated, initial_renewed, has_keys_for}
 use Rattle.qc_state.specs.Life.{is_open, is_over}
-use Rattle.qc_state.specs.Moves.{Accept, Ack, AreNext, Ask, Call, Discard, Enter, Fail, Forget, Hand, Issue, MayMove, Move, Post, Read, Seal, Shut, Take, Tell, Unseal, Write, deeds_move, keys_move, move_to, state_move, Update, Fire, Renew}
+use Rattle.qc_state.specs.Moves.{Accept, Ack, AreNext, Ask, Call, Discard, Enter, Fail, Forget, Hand, Issue, MayMove, Move, Post, Read, Seal, Shut, Take, Tell, Unseal, Write, deeds_move, keys_move, move_to, state_move, Update, Renew}
 use Rattle.qc_state.specs.Numbers.{next_number}
 use Rattle.qc_state.specs.Progress.{keys_behind, ring_with}
 use Rattle.qc_state.specs.Receiving.{datagram_after}
@@ -54,8 +54,9 @@ use Rattle.qc_state.proofs.Transmitted.{IsSealable, IsSending, holds_transmit}
 use Rattle.qc_state.proofs.Updates.{holds_updated}
 use Rattle.qc_state.proofs.WhichOpened.{IsNamed, opened_named}
 use Rattle.qc_laws.specs.StreamLaws.{is_of}
-use Rattle.qc_laws.specs.UpdateLaws.{Acknowledged, AllMay, AreAcksOf, AreLast, Discarded, EpochsRise, FoldsKeys, Given, KeepsEpochs, KeyStep, Opened, Sealed, acked_by, acks_told, is_unsealed, key_step, key_steps, opened_by, sealed_by, sealed_under, unsealed_in, unsealed_number, waits_for_answer, Updated}
+use Rattle.qc_laws.specs.UpdateLaws.{Acknowledged, AllMay, AreAcksOf, AreCounted, AreLast, Discarded, EpochsRise, FoldsKeys, Given, KeepsEpochs, KeyStep, Opened, Sealed, acked_by, acks_told, is_unsealed, key_step, key_steps, opened_by, sealed_by, sealed_under, unsealed_in, unsealed_number, waits_for_answer, Updated}
 use Rattle.qc_laws.proofs.KeyDeeds.{acks_append, no_pieces, read_unsealed, under_append, unread_none, unsealed_append}
+use Rattle.qc_laws.proofs.KeyCounts.{steps_counted}
 use Rattle.qc_laws.proofs.KeyEpochs.{steps_held, steps_rise}
 use Rattle.qc_laws.proofs.PieceLaws.{opened_tells, read_row}
 use Rattle.qc_laws.proofs.Receives.{IsOpened, datagram_holds}
@@ -190,6 +191,10 @@ module _ {H P : Type 0} where
   given_acks (HandshakeKeys keys) = tt
   given_acks (DataKeys keys) = tt
 
+  is_there : (k : Option (OneRttKeys H P)) → is_some k ≡ true → IsSome k
+  is_there None h = absurd cc
+  is_there (Some k) h = refl
+
   -- a packet of this form is sealed
   abbrev sealing_steps : Form → ℕ → List (KeyStep H P)
   sealing_steps form.OneRtt n = Sealed n ∷ []
@@ -210,12 +215,12 @@ module _ {H P : Type 0} where
   used_leads v form.Early n = refl
   used_leads v form.OneRtt n = refl
 
-  used_may : (v : KeyGroup H P) (f : Form) (n : ℕ) → reaches_limit 0 (usage_of v f) ≡ false → AllMay (sealing_steps f n) v.«data»
-  unfolding usage_of
-  used_may v form.Initial n h = tt
-  used_may v form.Handshake n h = tt
-  used_may v form.Early n h = tt
-  used_may v form.OneRtt n h = (h, tt)
+  used_may : (v : KeyGroup H P) (f : Form) (n : ℕ) → has_keys_for v f ≡ true → reaches_limit 0 (usage_of v f) ≡ false → AllMay (sealing_steps f n) v.«data»
+  unfolding usage_of has_keys_for
+  used_may v form.Initial n keyed h = tt
+  used_may v form.Handshake n keyed h = tt
+  used_may v form.Early n keyed h = tt
+  used_may v form.OneRtt n keyed h = ((is_there v.«data» keyed, h), tt)
 
   used_sealed : (v : KeyGroup H P) (f : Form) (n : ℕ) (fs : List FrameValue) → sealed_by (sealing_steps f n) v.«data» ≡ sealed_under (did.Sealed (number_space f) n (epoch_in v f) (is_early f) fs ∷ [])
   unfolding epoch_in
@@ -642,7 +647,7 @@ module _ {t : Types} where
         since = did.Sealed (number_space f) n (epoch_in a.state.keys f) (is_early f) fs ∷ [];
         appended = refl;
         steps = sealing_steps f n;
-        may = λ l. used_may a.state.keys f n may.fresh;
+        may = λ l. used_may a.state.keys f n may.keyed may.fresh;
         leads = used_leads a.state.keys f n;
         last = λ l. used_last a.state.keys f n l;
         sealed = used_sealed a.state.keys f n fs;
@@ -735,7 +740,21 @@ module _ {t : Types} where
   pub run_folds_keys : (m : Meaning t) (k : ℕ) (s : View t) (is : List Input) (xs : List Step) (s' : View t) → Run m k s is xs s' → AreLast s → FoldsKeys xs s s'
   run_folds_keys m k s is xs s' r last =
       let o : Over (deeds_of xs) s s' = run_over m k s is xs s' r in
-      record { steps = o.steps; may = o.may last; leads = o.leads; sealed = o.sealed; opened = o.opened; acked = subst (λ (bs : List (List ℕ)). AreAcksOf (acked_by o.steps) bs) (sym (o.told false)) o.acked }
+      let k : Option (OneRttKeys t.H t.P) = s.keys.«data» in
+      record {
+        steps = o.steps;
+        may = o.may last;
+        leads = o.leads;
+        sealed = o.sealed;
+        opened = o.opened;
+        acked = subst (λ (bs : List (List ℕ)). AreAcksOf (acked_by o.steps) bs) (sym (o.told false)) o.acked;
+        counted = λ before counted held small.
+            let behind = steps_counted o.steps k before (o.may last) counted held (subst (λ (keys : Option (OneRttKeys t.H t.P)). epoch_with keys < 18446744073709551615) o.leads small) in (
+              behind.0,
+              subst (λ (keys : Option (OneRttKeys t.H t.P)). AreCounted (before ++ sealed_under (deeds_of xs)) keys) (sym o.leads)
+                  (subst (λ (ps : List (ℕ × ℕ)). AreCounted (before ++ ps) (key_steps o.steps k)) o.sealed behind.1),
+            );
+      }
 
   pub run_last : (m : Meaning t) (k : ℕ) (s : View t) (is : List Input) (xs : List Step) (s' : View t) → Run m k s is xs s' → AreLast s → AreLast s'
   run_last m k s is xs s' r last = (run_over m k s is xs s' r).last last

@@ -1,5 +1,5 @@
 -- A ledger of the 1-RTT keys, by packets that opened and by each other move but the sealing of a packet.
-use Rattle.std.proofs.Common.{◌≡◌, ℕ, ◌+◌, ◌≤◌, ◌<◌, ◌⊎◌, inl, inr, List, [], ◌∷◌, ◌++◌, refl, ap, sym, ◌∙◌, subst, Bool, true, false, Option, Some, None, append_assoc, append-nil, arith}
+use Rattle.std.proofs.Common.{◌≡◌, ℕ, ◌≤◌, ◌<◌, ◌⊎◌, inl, inr, List, [], ◌∷◌, ◌++◌, refl, ap, sym, ◌∙◌, subst, Bool, true, false, Option, Some, None, append_assoc, append-nil, arith}
 use Rattle.std.specs.Prelude.{is_some, option_map}
 use Rattle.qc_base.specs.declared.side.LongType.TheVariants as long
 use Rattle.qc_base.specs.declared.side.SpaceId.{SpaceId}

@@ -15,6 +15,7 @@ pub mod Clocks
 pub mod DatagramLaws
 pub mod EventsTold
 pub mod EventsAsked
+pub mod FaultsClose
 pub mod Gifts
 pub mod HarmlessBytes
 pub mod HarmlessTests
@@ -23,6 +24,7 @@ pub mod LengthsHold
 pub mod IdsHold
 pub mod Inputs
 pub mod Joins
+pub mod KeysCount
 pub mod KeysHold
 pub mod MarksKept
 pub mod MarksTold
@@ -34,8 +36,9 @@ pub mod PostsFold
 pub mod PostsSealed
 pub mod PostsTaken
 pub mod Receives
+pub mod RetriesCome
 pub mod RetriesHold
-pub mod InitialKeys
+pub mod SpaceKeysHold
 pub mod Mismatches
 pub mod SpacesApart
 pub mod Steps
@@ -92,6 +95,7 @@ pub mod SealedDatagrams
 pub mod SealRuns
 pub mod FieldsKept
 pub mod KeyDeeds
+pub mod KeyCounts
 pub mod KeyEpochs
 pub mod KeysFold
 pub mod Ledgers

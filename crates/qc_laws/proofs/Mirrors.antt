@@ -194,7 +194,7 @@ module _ {t : Types} (m : Meaning t) (Comes : Piece → Type 0) where
 
   -- ---- inputs, steps and runs
 
-  among_same : (p : Piece) (items : List DatagramItem) → IsPieceOf p items → IsAmongPieces p items
+  pub among_same : (p : Piece) (items : List DatagramItem) → IsPieceOf p items → IsAmongPieces p items
   among_same p (Ok q ∷ items) (inl is) = inl is
   among_same p (Ok q ∷ items) (inr among) = inr (among_same p items among)
   among_same p (Err fault ∷ items) h = absurd h
@@ -255,7 +255,7 @@ module _ {t : Types} (m : Meaning t) where
     pub last : AreLast s → AreLast s'
     pub led : (e : Ledger t) → Mirrors s e → AreLast s → Led m (ComesWith s is) s' e (sealed_told ds) given
 
-  began_comes : (s : View t) (time : ℕ) (is : List Input) (p : Piece) → ComesWith (began s time).state is p → ComesWith s is p
+  pub began_comes : (s : View t) (time : ℕ) (is : List Input) (p : Piece) → ComesWith (began s time).state is p → ComesWith s is p
   unfolding began state_move setup_move
   began_comes s time is p h = h
 
@@ -296,19 +296,19 @@ module _ {t : Types} (m : Meaning t) where
       }
 
   -- a datagram is cut alike as long as what is fixed stays
-  comes_later : (s mid : View t) → mid.setup.fixed ≡ s.setup.fixed → (is : List Input) (p : Piece) → ComesWith mid is p → ComesWith s is p
+  pub comes_later : (s mid : View t) → mid.setup.fixed ≡ s.setup.fixed → (is : List Input) (p : Piece) → ComesWith mid is p → ComesWith s is p
   comes_later s mid same [] p h = absurd h
   comes_later s mid same (input.Datagram time remote ecn bytes ∷ is) p (inl among) =
       inl (subst (λ (f : Fixed). IsAmongPieces p (pieces_of (length f.local_cid) (f.version ∷ []) f.grease_quic_bit bytes)) same among)
   comes_later s mid same (input.Datagram time remote ecn bytes ∷ is) p (inr later) = inr (comes_later s mid same is p later)
   comes_later s mid same (i ∷ is) p h = comes_later s mid same is p h
 
-  comes_first : (s : View t) (i : Input) (is : List Input) (p : Piece) → ComesWith s (i ∷ []) p → ComesWith s (i ∷ is) p
+  pub comes_first : (s : View t) (i : Input) (is : List Input) (p : Piece) → ComesWith s (i ∷ []) p → ComesWith s (i ∷ is) p
   comes_first s (input.Datagram time remote ecn bytes) is p (inl among) = inl among
   comes_first s (input.Datagram time remote ecn bytes) is p (inr none) = absurd none
   comes_first s i is p h = absurd h
 
-  comes_behind : (s : View t) (i : Input) (is : List Input) (p : Piece) → ComesWith s is p → ComesWith s (i ∷ is) p
+  pub comes_behind : (s : View t) (i : Input) (is : List Input) (p : Piece) → ComesWith s is p → ComesWith s (i ∷ is) p
   comes_behind s (input.Datagram time remote ecn bytes) is p h = inr h
   comes_behind s i is p h = h
 

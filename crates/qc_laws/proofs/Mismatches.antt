@@ -206,7 +206,7 @@ module _ {t : Types} where
   datagram_tells : (m : Meaning t) (coming : Coming) (bytes : List ℕ) (a : At t) → Tells a (datagram_after m coming bytes a)
   datagram_tells m coming bytes a =
       datagram_around m coming (λ p. Unit {0}) Tells tells_here tells_next (λ x b h may. fine_move x b (around_fine coming.time x b.state h)) (λ space number v error b is. shut_tells coming.time space number v error b)
-      (λ cid token b unanswered. retry_tells m coming.time cid token b) (λ b. versions_tells coming.time b)
+      (λ cid token b r. retry_tells m coming.time cid token b) (λ b r. versions_tells coming.time b)
       (λ p comes o b opened. holds_packet m o Tells tells_here tells_next (λ x c h may. fine_move x c (packet_fine m o x c.state h)) b opened.lively) bytes a (λ p among. tt)
 
   input_tells : (m : Meaning t) (i : Input) (choice : Choice) (a : At t) → IsAllowed m i choice a → Tells a (input_after m i choice a)

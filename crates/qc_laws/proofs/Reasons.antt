@@ -371,7 +371,7 @@ module _ {t : Types} (m : Meaning t) where
   datagram_since : (coming : Coming) (bytes : List ℕ) (a : At t) → Since a (datagram_after m coming bytes a)
   datagram_since coming bytes a =
       datagram_around m coming (λ p. Unit {0}) Since since_here since_next (λ x b h may. around_since coming.time x b h) (λ space number v error b is. shut_since coming.time space number v error b is)
-      (λ cid token b unanswered. retry_since coming.time cid token b) (λ b. versions_by coming.time Since since_here since_next (λ x c h may. leaving_since coming.time x c h) b) (λ p comes o b opened. packet_since o b opened.lively) bytes a (λ p among. tt)
+      (λ cid token b r. retry_since coming.time cid token b) (λ b r. versions_by coming.time Since since_here since_next (λ x c h may. leaving_since coming.time x c h) b) (λ p comes o b opened. packet_since o b opened.lively) bytes a (λ p among. tt)
 
   -- ---- other inputs give no such reason
 

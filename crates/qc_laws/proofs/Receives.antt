@@ -1,7 +1,9 @@
 -- What a datagram does. What holds of the moves that receiving makes outside of the packets which open, and of each packet of the
 -- datagram that opened, holds of the datagram; so does what holds of each move that receiving makes.
 use Rattle.std.proofs.Common.{◌≡◌, ℕ, ◌<◌, ◌⊎◌, inl, inr, List, [], ◌∷◌, drop, refl, sym, subst, Bool, true, false, Option, Some, None, if◌then◌else◌, arith}
-use Rattle.std.specs.Prelude.{not, ◌&&◌, Ok, Err}
+use Rattle.std.specs.Cmp.Lexicographic.{other_text, pointwise}
+use Rattle.std.specs.Prelude.{not, ◌&&◌, Ok, Err, length, nat_eq, nat_lt, take}
+use Rattle.std.proofs.lemmas.Bool.Decides.{nat_tests}
 use Rattle.qc_base.specs.declared.side.Side.TheVariants.{Client}
 use Rattle.qc_base.specs.declared.side.SpaceId.{SpaceId}
 use Rattle.qc_header.specs.HeaderGrammar.{DatagramItem}
@@ -30,13 +32,14 @@ use Rattle.qc_state.specs.Recovering.{loss_time}
 use Rattle.qc_state.specs.Setup.{token_expected}
 use Rattle.qc_state.specs.Stopping.{given_after, key_limit_error, killed_after, stopped_after, update_error, violation_at}
 use Rattle.qc_state.specs.Types.{Types, Meaning}
-use Rattle.qc_state.specs.Verdicts.{first_row, ids_end, retry_token, takes_retry, unnumbered_rows, unnumbered_verdict}
+use Rattle.qc_state.specs.Verdicts.{first_row, ids_end, lacks_version, lists_version, retry_token, takes_retry, unnumbered_rows, unnumbered_verdict}
 use Rattle.qc_state.specs.View.{View, At}
+use Rattle.qc_laws.specs.RetryLaws.{IsRetry, ListsOthers}
 use Rattle.qc_state.proofs.Ends.{given_by, stopped_by}
 use Rattle.qc_state.proofs.OpenPackets.{holds_packet, packet_received}
 use Rattle.qc_state.proofs.PacketMoves.{OpenPacket, in_packet_piece}
 use Rattle.qc_state.proofs.Telling.{open_rank}
-use Rattle.qc_state.proofs.ReceivedMoves.{IsOfPiece, IsOutside, IsReceived, IsUnopened, IsUnopenedError, IsUnopenedReason, IsUnread, close_for, outside_received, piece_received, unopened_outside, unopened_piece}
+use Rattle.qc_state.proofs.ReceivedMoves.{IsOfPiece, IsOutside, IsReceived, IsUnopened, IsUnopenedError, IsUnread, close_for, outside_received, piece_received, unopened_outside, unopened_piece}
 
 -- a connection that isn't over has not ended
 lively_rank : (s : State) → is_over s ≡ false → rank_of s < 4
@@ -70,18 +73,79 @@ no_taken : {X : Type 0} (b : Bool) → first_row ((b, verdict.Versions) ∷ []) 
 no_taken true e = absurd cc
 no_taken false e = absurd cc
 
+row_versions : (b : Bool) → first_row ((b, verdict.Versions) ∷ []) verdict.Ignored ≡ verdict.Versions → b ≡ true
+row_versions true e = refl
+row_versions false e = cc
+
+no_versions : {X : Type 0} (b : Bool) → first_row ((b, verdict.RetryTaken) ∷ []) verdict.Ignored ≡ verdict.Versions → X
+no_versions true e = absurd cc
+no_versions false e = absurd cc
+
 first_true : (b c : Bool) → (b && c) ≡ true → b ≡ true
 first_true true c e = refl
 first_true false c e = cc
+
+rest_true : (b c : Bool) → (b && c) ≡ true → c ≡ true
+rest_true true c e = e
+rest_true false c e = absurd cc
+
+not_so : (b : Bool) → not b ≡ true → b ≡ false
+not_so true e = cc
+not_so false e = refl
+
+longer_by : (n : ℕ) → nat_lt 16 n ≡ true → 16 < n
+longer_by n e = grind (arith, nat_tests, e)
 
 low_by : (s : State) → is_open s ≡ true → rank_of s < 3
 low_by s h = let low : rank_of s < 2 = open_rank s h in omega arith
 
 module _ {t : Types} where
-  -- a Retry is taken by a client that wasn't answered
-  pub retry_unanswered : (m : Meaning t) (s : View t) (src_cid header payload : List ℕ) → takes_retry m s src_cid header payload ≡ true → is_unanswered s ≡ true
+  -- a Retry that a client takes, which wasn't answered
+  pub record Renews (m : Meaning t) (Comes : Piece → Type 0) (s : View t) (cid token : List ℕ) : Type 0 where
+    pub piece : Piece
+    pub comes : Comes piece
+    pub unanswered : is_unanswered s ≡ true
+    pub is : IsRetry m s.setup.fixed.first_cid piece cid token
+
+  retry_is : (m : Meaning t) (Comes : Piece → Type 0) (s : View t) (p : Piece) (dst_cid cid : List ℕ) (version : ℕ) → Comes p → p.header ≡ protected.Retry dst_cid cid version →
+      takes_retry m s cid (take (ids_end dst_cid cid) p.bytes) (drop (ids_end dst_cid cid) p.bytes) ≡ true → Renews m Comes s cid (retry_token (drop (ids_end dst_cid cid) p.bytes))
   unfolding takes_retry
-  retry_unanswered m s src_cid header payload h = first_true (is_unanswered s) _ h
+  retry_is m Comes s p dst_cid cid version comes form h =
+      let more = rest_true (is_unanswered s) _ h in
+      let most = rest_true (nat_lt 16 (length (drop (ids_end dst_cid cid) p.bytes))) _ more in
+      record {
+        piece = p;
+        comes = comes;
+        unanswered = first_true (is_unanswered s) _ h;
+        is = record {
+          dst_cid = dst_cid;
+          version = version;
+          form = form;
+          session = s.lower.session;
+          fits = first_true (m.fits_retry s.lower.session s.setup.fixed.first_cid (take (ids_end dst_cid cid) p.bytes) (drop (ids_end dst_cid cid) p.bytes)) _ most;
+          longer = longer_by (length (drop (ids_end dst_cid cid) p.bytes)) (first_true (nat_lt 16 (length (drop (ids_end dst_cid cid) p.bytes))) _ more);
+          other = other_text cid s.setup.fixed.first_cid (sym (not_so (pointwise nat_eq cid s.setup.fixed.first_cid)
+              (rest_true (m.fits_retry s.lower.session s.setup.fixed.first_cid (take (ids_end dst_cid cid) p.bytes) (drop (ids_end dst_cid cid) p.bytes)) _ most)));
+          given = refl;
+        };
+      }
+
+  -- a list of versions without this end's comes to a client that wasn't answered
+  pub record Parts (Comes : Piece → Type 0) (s : View t) : Type 0 where
+    pub piece : Piece
+    pub comes : Comes piece
+    pub unanswered : is_unanswered s ≡ true
+    pub is : ListsOthers s.setup.fixed.version piece
+
+  versions_are : (Comes : Piece → Type 0) (s : View t) (p : Piece) (random : ℕ) (src_cid dst_cid : List ℕ) → Comes p → p.header ≡ protected.VersionNegotiate random src_cid dst_cid →
+      lacks_version s (drop (ids_end dst_cid src_cid) p.bytes) ≡ true → Parts Comes s
+  unfolding lacks_version
+  versions_are Comes s p random src_cid dst_cid comes form h = record {
+    piece = p;
+    comes = comes;
+    unanswered = first_true (is_unanswered s) _ h;
+    is = record { random = random; src_cid = src_cid; dst_cid = dst_cid; form = form; lacks = not_so (lists_version s.setup.fixed.version (drop (ids_end dst_cid src_cid) p.bytes)) (rest_true (is_unanswered s) _ h) };
+  }
 
   -- what is expected leaves how a datagram is cut
   pub same_cut : (token bytes : List ℕ) (a : At t) → cut_of (move_to (Expect token) a).state bytes ≡ cut_of a.state bytes
@@ -176,8 +240,8 @@ module _ {t : Types} (time : ℕ) (R : At t → At t → Type 0) (here : (a : At
 module _ {t : Types} (m : Meaning t) (coming : Coming) (Comes : Piece → Type 0) (R : At t → At t → Type 0) (here : (a : At t) → R a a) (next : (a b c : At t) → R a b → R b c → R a c)
     (move : (x : Move t) (a : At t) → IsUnshut x → MayMove x a.state → R a (move_to x a))
     (shut : (space : Option SpaceId) (number : ℕ) (v : Verdict) (error : TransportError) (a : At t) → IsShutBy v error → R a (stopped_after coming.time error (move_to (Tell (did.Piece space (Some number) v)) a)))
-    (retry : (cid token : List ℕ) (a : At t) → is_unanswered a.state ≡ true → R a (renewed_after m coming.time cid token a))
-    (versions : (a : At t) → R a (left_after coming.time lost.VersionMismatch (piece_told None None verdict.Versions a)))
+    (retry : (cid token : List ℕ) (a : At t) → Renews m Comes a.state cid token → R a (renewed_after m coming.time cid token a))
+    (versions : (a : At t) → Parts Comes a.state → R a (left_after coming.time lost.VersionMismatch (piece_told None None verdict.Versions a)))
     (packet : (p : Piece) → Comes p → (o : OpenPacket) (a : At t) → IsOpened m coming a.state p o → R a (packet_received m o a)) where
   -- the connection ends at once, or not
   killed_by : (a : At t) (b : Bool) → rank_of a.state.life.state < 4 → R a (if b then killed_after (lost.TransportError key_limit_error) a else a)
@@ -209,31 +273,40 @@ module _ {t : Types} (m : Meaning t) (coming : Coming) (Comes : Piece → Type 0
   opening_by p None (Opened source token spin which number payload) a comes form opened lively = move (Tell (did.Piece None None verdict.Ignored)) a tt refl
 
   -- a Retry that is taken
-  retried_by : (header : ProtectedHeader) (bytes : List ℕ) (a : At t) → first_row (unnumbered_rows m a.state header bytes) verdict.Ignored ≡ verdict.RetryTaken → R a (retried_after m coming.time header bytes a)
-  retried_by (protected.Retry dst_cid src_cid version) bytes a e =
-      retry src_cid (retry_token (drop (ids_end dst_cid src_cid) bytes)) a (retry_unanswered m a.state src_cid _ _ (row_taken _ e))
-  retried_by (protected.Initial dst_cid src_cid token_start token_len version) bytes a e = cc
-  retried_by (protected.Long ty dst_cid src_cid version) bytes a e = cc
-  retried_by (protected.Short spin dst_cid) bytes a e = cc
-  retried_by (protected.VersionNegotiate random src_cid dst_cid) bytes a e = no_taken _ e
+  retried_by : (p : Piece) (header : ProtectedHeader) (a : At t) → Comes p → p.header ≡ header → first_row (unnumbered_rows m a.state header p.bytes) verdict.Ignored ≡ verdict.RetryTaken →
+      R a (retried_after m coming.time header p.bytes a)
+  retried_by p (protected.Retry dst_cid src_cid version) a comes form e =
+      retry src_cid (retry_token (drop (ids_end dst_cid src_cid) p.bytes)) a (retry_is m Comes a.state p dst_cid src_cid version comes form (row_taken _ e))
+  retried_by p (protected.Initial dst_cid src_cid token_start token_len version) a comes form e = cc
+  retried_by p (protected.Long ty dst_cid src_cid version) a comes form e = cc
+  retried_by p (protected.Short spin dst_cid) a comes form e = cc
+  retried_by p (protected.VersionNegotiate random src_cid dst_cid) a comes form e = no_taken _ e
+
+  -- a list of versions that counts
+  listed_by : (p : Piece) (header : ProtectedHeader) (a : At t) → Comes p → p.header ≡ header → first_row (unnumbered_rows m a.state header p.bytes) verdict.Ignored ≡ verdict.Versions → Parts Comes a.state
+  listed_by p (protected.VersionNegotiate random src_cid dst_cid) a comes form e = versions_are Comes a.state p random src_cid dst_cid comes form (row_versions _ e)
+  listed_by p (protected.Initial dst_cid src_cid token_start token_len version) a comes form e = absurd cc
+  listed_by p (protected.Long ty dst_cid src_cid version) a comes form e = absurd cc
+  listed_by p (protected.Short spin dst_cid) a comes form e = absurd cc
+  listed_by p (protected.Retry dst_cid src_cid version) a comes form e = no_versions _ e
 
   -- a packet without a number, by its verdict
-  unnumbered_by : (p : Piece) (v : Verdict) (a : At t) → unnumbered_verdict m a.state p ≡ v → R a (unnumbered_after m coming.time p v a)
+  unnumbered_by : (p : Piece) (v : Verdict) (a : At t) → Comes p → unnumbered_verdict m a.state p ≡ v → R a (unnumbered_after m coming.time p v a)
   unfolding unnumbered_verdict MayMove
-  unnumbered_by p verdict.RetryTaken a e = retried_by p.header p.bytes a e
-  unnumbered_by p verdict.Versions a e = versions a
-  unnumbered_by p verdict.Ignored a e = move (Tell (did.Piece None None verdict.Ignored)) a tt refl
-  unnumbered_by p verdict.Failure a e = move (Tell (did.Piece None None verdict.Ignored)) a tt refl
-  unnumbered_by p verdict.BadBits a e = move (Tell (did.Piece None None verdict.Ignored)) a tt refl
-  unnumbered_by p verdict.BadUpdate a e = move (Tell (did.Piece None None verdict.Ignored)) a tt refl
-  unnumbered_by p verdict.Seen a e = move (Tell (did.Piece None None verdict.Ignored)) a tt refl
-  unnumbered_by p verdict.ReadForClose a e = move (Tell (did.Piece None None verdict.Ignored)) a tt refl
-  unnumbered_by p verdict.NumberOnly a e = move (Tell (did.Piece None None verdict.Ignored)) a tt refl
-  unnumbered_by p verdict.AckOnly a e = move (Tell (did.Piece None None verdict.Ignored)) a tt refl
-  unnumbered_by p verdict.Admitted a e = move (Tell (did.Piece None None verdict.Ignored)) a tt refl
+  unnumbered_by p verdict.RetryTaken a comes e = retried_by p p.header a comes refl e
+  unnumbered_by p verdict.Versions a comes e = versions a (listed_by p p.header a comes refl e)
+  unnumbered_by p verdict.Ignored a comes e = move (Tell (did.Piece None None verdict.Ignored)) a tt refl
+  unnumbered_by p verdict.Failure a comes e = move (Tell (did.Piece None None verdict.Ignored)) a tt refl
+  unnumbered_by p verdict.BadBits a comes e = move (Tell (did.Piece None None verdict.Ignored)) a tt refl
+  unnumbered_by p verdict.BadUpdate a comes e = move (Tell (did.Piece None None verdict.Ignored)) a tt refl
+  unnumbered_by p verdict.Seen a comes e = move (Tell (did.Piece None None verdict.Ignored)) a tt refl
+  unnumbered_by p verdict.ReadForClose a comes e = move (Tell (did.Piece None None verdict.Ignored)) a tt refl
+  unnumbered_by p verdict.NumberOnly a comes e = move (Tell (did.Piece None None verdict.Ignored)) a tt refl
+  unnumbered_by p verdict.AckOnly a comes e = move (Tell (did.Piece None None verdict.Ignored)) a tt refl
+  unnumbered_by p verdict.Admitted a comes e = move (Tell (did.Piece None None verdict.Ignored)) a tt refl
 
   formed_by : (p : Piece) (space : Option SpaceId) (a : At t) → Comes p → space_of p.header ≡ space → is_over a.state.life.state ≡ false → R a (formed_after m coming space p a)
-  formed_by p None a comes form lively = unnumbered_by p (unnumbered_verdict m a.state p) a refl
+  formed_by p None a comes form lively = unnumbered_by p (unnumbered_verdict m a.state p) a comes refl
   formed_by p (Some id) a comes form lively = opening_by p (Some id) (opening_of m a.state p) a comes form refl lively
 
   piece_by : (p : Piece) (a : At t) (b : Bool) → Comes p → is_over a.state.life.state ≡ b → R a (if b then piece_told (space_of p.header) None verdict.Ignored a else formed_after m coming (space_of p.header) p a)
@@ -257,8 +330,8 @@ module _ {t : Types} (m : Meaning t) (coming : Coming) (Comes : Piece → Type 0
 module _ {t : Types} (m : Meaning t) (coming : Coming) (Comes : Piece → Type 0) (R : At t → At t → Type 0) (here : (a : At t) → R a a) (next : (a b c : At t) → R a b → R b c → R a c)
     (move : (x : Move t) (a : At t) → IsAround coming.time x a.state → MayMove x a.state → R a (move_to x a))
     (shut : (space : Option SpaceId) (number : ℕ) (v : Verdict) (error : TransportError) (a : At t) → IsShutBy v error → R a (stopped_after coming.time error (move_to (Tell (did.Piece space (Some number) v)) a)))
-    (retry : (cid token : List ℕ) (a : At t) → is_unanswered a.state ≡ true → R a (renewed_after m coming.time cid token a))
-    (versions : (a : At t) → R a (left_after coming.time lost.VersionMismatch (piece_told None None verdict.Versions a)))
+    (retry : (cid token : List ℕ) (a : At t) → Renews m Comes a.state cid token → R a (renewed_after m coming.time cid token a))
+    (versions : (a : At t) → Parts Comes a.state → R a (left_after coming.time lost.VersionMismatch (piece_told None None verdict.Versions a)))
     (packet : (p : Piece) → Comes p → (o : OpenPacket) (a : At t) → IsOpened m coming a.state p o → R a (packet_received m o a)) where
   heard_by : (items : List DatagramItem) (a : At t) (b : Bool) (n : ℕ) → ((p : Piece) → IsPieceOf p items → Comes p) → R a (if b then counted_after coming.time (is_blocked a.state.paths) n (pieces_after m coming items a) else a)
   heard_by items a true n come =
@@ -289,21 +362,34 @@ module _ {t : Types} (m : Meaning t) (coming : Coming) (Comes : Piece → Type 0
   unfolding datagram_after
   datagram_around bytes a come = datagram_by bytes (first_token m a.state coming.remote bytes) a _ come
 
+-- the ones behind what tells of it
+abbrev pub IsParting : {t : Types} → (time : ℕ) → Move t → Type 0
+IsParting time (PeerCloses at) = at ≡ time
+IsParting time (Give why) = why ≡ lost.VersionMismatch
+IsParting time _ = ⊥
+
+parting_leaving : {t : Types} (time : ℕ) (x : Move t) → IsParting time x → IsLeaving time x
+parting_leaving time (PeerCloses at) h = h
+parting_leaving time (Give why) h = h
+parting_leaving time _ h = absurd h
+
 -- what holds of each move by which a client leaves that a list of versions came to holds of them all
 module _ {t : Types} (time : ℕ) (R : At t → At t → Type 0) (here : (a : At t) → R a a) (next : (a b c : At t) → R a b → R b c → R a c)
-    (move : (x : Move t) (a : At t) → IsLeaving time x → MayMove x a.state → R a (move_to x a)) where
-  left_by : (a : At t) (b : Bool) → is_open a.state.life.state ≡ b → R a (if b then given_after lost.VersionMismatch (move_to (PeerCloses time) a) else a)
+    (move : (x : Move t) (a : At t) → IsParting time x → MayMove x a.state → R a (move_to x a)) where
+  pub left_by : (a : At t) (b : Bool) → is_open a.state.life.state ≡ b → R a (if b then given_after lost.VersionMismatch (move_to (PeerCloses time) a) else a)
   unfolding MayMove
   left_by a true opened =
       let b : At t = move_to (PeerCloses time) a in
       next a b _ (move (PeerCloses time) a refl (low_by a.state.life.state opened)) (given_by R here next lost.VersionMismatch b (λ none. move (Give lost.VersionMismatch) b refl none))
   left_by a false opened = here a
 
+module _ {t : Types} (time : ℕ) (R : At t → At t → Type 0) (here : (a : At t) → R a a) (next : (a b c : At t) → R a b → R b c → R a c)
+    (move : (x : Move t) (a : At t) → IsLeaving time x → MayMove x a.state → R a (move_to x a)) where
   pub versions_by : (a : At t) → R a (left_after time lost.VersionMismatch (piece_told None None verdict.Versions a))
   unfolding left_after MayMove
   versions_by a =
       let b : At t = move_to (Tell (did.Piece None None verdict.Versions)) a in
-      next a b _ (move (Tell (did.Piece None None verdict.Versions)) a refl refl) (left_by b _ refl)
+      next a b _ (move (Tell (did.Piece None None verdict.Versions)) a refl refl) (left_by time R here next (λ x c h may. move x c (parting_leaving time x h) may) b _ refl)
 
 -- what holds of each move that a packet makes which doesn't open, where it may be made, holds of what is told of it with the end behind that, of a Retry
 -- that is taken, and of a list of versions
@@ -342,7 +428,7 @@ module _ {t : Types} (m : Meaning t) (coming : Coming) (Comes : Piece → Type 0
   pub pieces_hold : (items : List DatagramItem) (a : At t) → ((p : Piece) → IsPieceOf p items → Comes p) → R a (pieces_after m coming items a)
   pieces_hold items a come =
       pieces_around m coming Comes R here next (λ x b h may. move x b (unshut_unopened coming.time x b.state h) may) (shut_by m coming.time R here next move)
-      (retry_by m coming.time R here next move) (list_by m coming.time R here next move) packet items a come
+      (λ cid token b r. retry_by m coming.time R here next move cid token b r.unanswered) (λ b r. list_by m coming.time R here next move b) packet items a come
 
 module _ {t : Types} (time : ℕ) (R : At t → At t → Type 0) (here : (a : At t) → R a a) (next : (a b c : At t) → R a b → R b c → R a c)
     (move : (x : Move t) (a : At t) → IsOutside time x a.state → MayMove x a.state → R a (move_to x a)) where
@@ -360,7 +446,7 @@ module _ {t : Types} (m : Meaning t) (coming : Coming) (Comes : Piece → Type 0
   pub datagram_holds : (bytes : List ℕ) (a : At t) → ((p : Piece) → IsPieceOf p (cut_of a.state bytes) → Comes p) → R a (datagram_after m coming bytes a)
   datagram_holds bytes a come =
       datagram_around m coming Comes R here next (λ x b h may. move x b (around_outside coming.time x b.state h) may) (shut_by m coming.time R here next unopened)
-      (retry_by m coming.time R here next unopened) (list_by m coming.time R here next unopened) packet bytes a come
+      (λ cid token b r. retry_by m coming.time R here next unopened cid token b r.unanswered) (λ b r. list_by m coming.time R here next unopened b) packet bytes a come
 
 -- what holds of no move, of two moves one after the other, and of each move that a packet makes which came, where it may be made, holds of
 -- packets

@@ -1,8 +1,10 @@
--- Over a run at most one Retry is taken, and none once a packet of the server's was accepted.
-use Rattle.std.proofs.Common.{◌≡◌, ℕ, ◌+◌, ◌≤◌, List, [], ◌∷◌, ◌++◌, refl, ap, sym, ◌∙◌, subst, Bool, true, false, arith, append_assoc, append-nil}
+-- Over a run at most one Retry is taken, and none once a packet of the server's was accepted; nor does a list of versions count then.
+use Rattle.std.proofs.Common.{◌≡◌, ℕ, ◌+◌, ◌≤◌, List, [], ◌∷◌, ◌++◌, refl, ap, sym, ◌∙◌, subst, Bool, true, false, Option, None, Some, arith, append_assoc, append-nil}
 use Rattle.std.specs.Prelude.{◌&&◌, ◌||◌, not, is_none}
+use Rattle.qc_base.specs.declared.side.Side.TheVariants.{Client}
 use Rattle.qc_base.specs.declared.side.SpaceId.{SpaceId}
 use Rattle.qc_base.specs.declared.side.SpaceId.TheVariants.{Initial}
+use Rattle.qc_base.specs.declared.transport_error.TransportError.{TransportError}
 use Rattle.qc_state.specs.declared.coming.Coming.{Coming}
 use Rattle.qc_state.specs.declared.deeds.Did.{Did}
 use Rattle.qc_state.specs.declared.deeds.Did.TheVariants as did
@@ -11,31 +13,36 @@ use Rattle.qc_state.specs.declared.deeds.Verdict.TheVariants as verdict
 use Rattle.qc_state.specs.declared.input.Input.{Input}
 use Rattle.qc_state.specs.declared.input.Input.TheVariants as input
 use Rattle.qc_state.specs.declared.keys.SpaceKeys.{SpaceKeys}
+use Rattle.qc_state.specs.declared.life.ConnectionError.TheVariants as lost
 use Rattle.qc_state.specs.declared.life.State.{State}
 use Rattle.qc_state.specs.declared.life.State.TheVariants as state
 use Rattle.qc_state.specs.declared.opening.Signs.{Signs}
 use Rattle.qc_state.specs.declared.trace.Step.{Step}
 use Rattle.qc_state.specs.Headline.{deeds_of}
 use Rattle.qc_state.specs.Life.{all_heard_reported, connected_reported, drained_reported, is_handshake, lost_reported, notices_reported, rank_of, ready_reported}
-use Rattle.qc_state.specs.Moves.{Accept, Ack, Enter, Fix, Hand, Learn, MayMove, Move, Renew, Seal, Skip, Tell, accepts, deeds_move, enters, is_client, is_unanswered, life_move, move_to, numbers_move, paths_move, setup_move, state_move}
+use Rattle.qc_state.specs.Moves.{Accept, Ack, Arm, Enter, Fix, Give, Hand, IsTold, Learn, MayMove, Move, PeerCloses, Renew, Seal, Shut, Skip, Tell, accepts, armed_after, armed_with, deeds_move, enters, is_client, is_unanswered, life_move, move_to, numbers_move, paths_move, setup_move, state_move}
 use Rattle.qc_state.specs.Numbers.{number_accepted, number_acked, number_entered, number_skipped, number_used}
-use Rattle.qc_state.specs.Paths.{path_capped, path_kept, path_named, peer_fixed}
-use Rattle.qc_state.specs.Receiving.{datagram_after}
+use Rattle.qc_state.specs.Keys.{new_keys}
+use Rattle.qc_state.specs.Paths.{is_blocked, path_capped, path_kept, path_named, peer_fixed}
+use Rattle.qc_state.specs.Receiving.{datagram_after, left_after, piece_told, renewed_after}
+use Rattle.qc_state.specs.Recovering.{loss_time}
 use Rattle.qc_state.specs.Run.{IsAllowed, IsStep, Run, began, called, input_after, reported, step_after, time_of}
 use Rattle.qc_state.specs.Sending.{Choice}
+use Rattle.qc_state.specs.Stopping.{stopped_after}
 use Rattle.qc_state.specs.Setup.{parameters_known, retry_taken}
 use Rattle.qc_state.specs.Types.{Types, Meaning}
 use Rattle.qc_state.specs.View.{View, At}
+use Rattle.qc_state.proofs.Ends.{stopped_by}
 use Rattle.qc_state.proofs.OpenPackets.{holds_packet}
 use Rattle.qc_state.proofs.PacketMoves.{IsInPacket, IsToldOf, OpenPacket}
-use Rattle.qc_state.proofs.ReceivedMoves.{IsOutside, IsUnread}
+use Rattle.qc_state.proofs.ReceivedMoves.{close_for}
 use Rattle.qc_state.proofs.Telling.{kernel, move_tells, told_appends}
 use Rattle.qc_laws.specs.PieceLaws.{pieces_in}
-use Rattle.qc_laws.specs.RetryLaws.{RetriesFirst, TakesOneRetry, has_answered, is_answer, is_taken, takes_retry}
+use Rattle.qc_laws.specs.RetryLaws.{RetriesFirst, TakesOneRetry, has_answered, is_answer, is_taken, is_versions, tells_retry, tells_versions}
 use Rattle.qc_laws.proofs.CidMoves.{other_peer, other_retry, same_side}
 use Rattle.qc_laws.proofs.InitialDeeds.{tells_rank}
 use Rattle.qc_laws.proofs.Inputs.{IsOwn, holds_own}
-use Rattle.qc_laws.proofs.Receives.{datagram_holds}
+use Rattle.qc_laws.proofs.Receives.{IsAround, IsParting, IsShunned, IsShutBy, datagram_around, left_by}
 use Rattle.qc_laws.proofs.StreamCalls.{handed_told}
 
 -- ---- truth values
@@ -72,10 +79,10 @@ or_none false b h = h
 
 -- ---- deeds
 
--- they tell of no Retry that was taken, and of no packet that was accepted
+-- they tell of no Retry that was taken, of no list of versions that counts, and of no packet that was accepted
 abbrev IsSilent : List Did → Type 0
 IsSilent [] = Unit {0}
-IsSilent (d ∷ ds) = (takes_retry d ≡ false) × (is_answer d ≡ false) × IsSilent ds
+IsSilent (d ∷ ds) = ((tells_retry d || tells_versions d) ≡ false) × (is_answer d ≡ false) × IsSilent ds
 
 unpieced_silent : (ds : List Did) → pieces_in ds ≡ [] → IsSilent ds
 unpieced_silent [] h = tt
@@ -92,7 +99,7 @@ untaken_first p false none h = absurd cc
 
 silent_first : (p : Bool) (ds : List Did) → IsSilent ds → RetriesFirst p ds
 silent_first p [] h = tt
-silent_first p (d ∷ ds) h = (untaken_first p (takes_retry d) h.0, silent_first (p || is_answer d) ds h.2)
+silent_first p (d ∷ ds) h = (untaken_first p (tells_retry d || tells_versions d) h.0, silent_first (p || is_answer d) ds h.2)
 
 silent_answered : (p : Bool) (ds : List Did) → IsSilent ds → has_answered p ds ≡ p
 silent_answered p [] h = refl
@@ -122,18 +129,20 @@ joined_first p q xs ys le h g = first_append p xs ys h (weaker_first (has_answer
 joined_answered : (p q : Bool) (xs ys : List Did) → (has_answered p xs ≡ true → q ≡ true) → has_answered p (xs ++ ys) ≡ true → has_answered q ys ≡ true
 joined_answered p q xs ys le h = weaker_answered (has_answered p xs) q ys le (sym (answered_append p xs ys) ∙ h)
 
--- a packet whose number counts is no Retry
-entered_untaken : (v : Verdict) → enters v ≡ true → is_taken v ≡ false
+-- a packet whose number counts is neither
+pub entered_untaken : (v : Verdict) → enters v ≡ true → is_taken v ≡ false
 entered_untaken verdict.RetryTaken h = cc
 entered_untaken _ h = refl
 
-unread_silent : (d : Did) → IsUnread d → IsSilent (d ∷ [])
-unread_silent (did.Piece space number verdict.Ignored) h = (refl, refl, tt)
-unread_silent (did.Piece space number verdict.Failure) h = (refl, refl, tt)
-unread_silent (did.Piece space number verdict.BadBits) h = (refl, refl, tt)
-unread_silent (did.Piece space number verdict.BadUpdate) h = (refl, refl, tt)
-unread_silent (did.Piece space number verdict.Versions) h = (refl, refl, tt)
-unread_silent _ h = absurd h
+entered_numbered : (v : Verdict) → enters v ≡ true → (is_taken v || is_versions v) ≡ false
+entered_numbered verdict.RetryTaken h = cc
+entered_numbered verdict.Versions h = cc
+entered_numbered _ h = refl
+
+shunned_silent : (d : Did) → IsShunned d → IsSilent (d ∷ [])
+shunned_silent (did.Piece space number verdict.Ignored) h = (refl, refl, tt)
+shunned_silent (did.Piece space number verdict.Failure) h = (refl, refl, tt)
+shunned_silent _ h = absurd h
 
 -- ---- the state
 
@@ -156,7 +165,7 @@ LeavesAnswer (Accept time id n e g v) = ⊥
 LeavesAnswer _ = Unit {0}
 
 -- those, and the others that tell of a packet
-abbrev IsPlain : {t : Types} → Move t → Type 0
+abbrev pub IsPlain : {t : Types} → Move t → Type 0
 IsPlain (Fix cid) = ⊥
 IsPlain (Renew time cid token keys) = ⊥
 IsPlain (Accept time id n e g v) = ⊥
@@ -167,7 +176,7 @@ IsPlain _ = Unit {0}
 module _ {t : Types} where
   told_silent : (o : OpenPacket) (d : Did) (s : View t) → IsToldOf o d s → IsSilent (d ∷ [])
   told_silent o (did.Gave to body) s h = (refl, refl, tt)
-  told_silent o (did.Piece space number v) s h = (ap is_taken h.2, (λ i. is_taken (h.2 i) || accepts (h.2 i)), tt)
+  told_silent o (did.Piece space number v) s h = ((λ i. is_taken (h.2 i) || is_versions (h.2 i)), (λ i. is_taken (h.2 i) || accepts (h.2 i)), tt)
   told_silent o _ s h = absurd h
 
   plain_leaves : (x : Move t) → IsPlain x → LeavesAnswer x
@@ -176,7 +185,7 @@ module _ {t : Types} where
   plain_leaves (Accept time id n e g v) h = absurd h
   plain_leaves _ h = tt
 
-  plain_deeds : (x : Move t) (s : View t) → IsPlain x → pieces_in (deeds_move x s) ≡ []
+  pub plain_deeds : (x : Move t) (s : View t) → IsPlain x → pieces_in (deeds_move x s) ≡ []
   unfolding deeds_move
   plain_deeds (Renew time cid token keys) s h = absurd h
   plain_deeds (Accept time id n e g v) s h = absurd h
@@ -283,14 +292,14 @@ module _ {t : Types} where
   unfolding deeds_move MayMove
   enter_move id n v a none may =
       let untaken : is_taken v ≡ false = entered_untaken v may.1 in
-      silent_move (Enter id n v) a (untaken, (λ i. untaken i || none i), tt) (λ h. stays_unanswered (Enter id n v) a.state may tt h)
+      silent_move (Enter id n v) a (entered_numbered v may.1, (λ i. untaken i || none i), tt) (λ h. stays_unanswered (Enter id n v) a.state may tt h)
 
   -- it is accepted
   accept_move : (time : ℕ) (id : SpaceId) (n : ℕ) (e : Bool) (g : Signs) (v : Verdict) (a : At t) → enters v ≡ true → Answers a (move_to (Accept time id n e g v) a)
   unfolding is_unanswered deeds_move state_move numbers_move number_accepted
   accept_move time id n e g v a counts =
       let s : View t = state_move (Accept time id n e g v) a.state in
-      by_move (Accept time id n e g v) a (untaken_first (not (is_unanswered a.state)) (is_taken v) (entered_untaken v counts), tt)
+      by_move (Accept time id n e g v) a (untaken_first (not (is_unanswered a.state)) (is_taken v || is_versions v) (entered_numbered v counts), tt)
       (λ answered. and_none (is_client s.setup.fixed.side) _ (and_none (is_handshake s.life.state) _ refl))
 
   -- a Retry is taken
@@ -303,14 +312,52 @@ module _ {t : Types} where
 
   -- ---- inputs
 
-  outside_move : (time : ℕ) (x : Move t) (a : At t) → IsOutside time x a.state → MayMove x a.state → Answers a (move_to x a)
+  around_move : (time : ℕ) (x : Move t) (a : At t) → IsAround time x a.state → MayMove x a.state → Answers a (move_to x a)
+  around_move time (Fix cid) a h may = absurd h
+  around_move time (Accept at id n e g v) a h may = absurd h
+  around_move time (Enter id n v) a h may = absurd h
+  around_move time (Renew at cid token keys) a h may = absurd h
+  around_move time (Tell d) a h may = tell_move d a (shunned_silent d h) may
+  around_move time x a h may = plain_move x a tt may
+
+  -- this end closes for what a packet shows
+  shut_behind : (time : ℕ) (d : Did) (error : TransportError) (a : At t) → IsSilent (d ∷ []) → IsTold d → Answers a (stopped_after time error (move_to (Tell d) a))
   unfolding MayMove
-  outside_move time (Fix cid) a h may = absurd h
-  outside_move time (Accept at id n e g v) a h may = absurd h
-  outside_move time (Enter id n v) a h may = absurd h
-  outside_move time (Renew at cid token keys) a h may = renew_move at cid token keys a may
-  outside_move time (Tell d) a h may = tell_move d a (unread_silent d h) may
-  outside_move time x a h may = plain_move x a tt may
+  shut_behind time d error a silent told =
+      let b : At t = move_to (Tell d) a in
+      let c : At t = move_to (Shut time (close_for error)) b in
+      answers_next a b _ (tell_move d a silent told)
+      (stopped_by Answers answers_here answers_next time error b (λ low. plain_move (Shut time (close_for error)) b tt low) (λ none. plain_move (Give (lost.TransportError error)) c tt none))
+
+  shut_answers : (time : ℕ) (space : Option SpaceId) (number : ℕ) (v : Verdict) (error : TransportError) (a : At t) → IsShutBy v error → Answers a (stopped_after time error (move_to (Tell (did.Piece space (Some number) v)) a))
+  shut_answers time space number verdict.BadBits error a is = shut_behind time (did.Piece space (Some number) verdict.BadBits) error a (refl, refl, tt) refl
+  shut_answers time space number verdict.BadUpdate error a is = shut_behind time (did.Piece space (Some number) verdict.BadUpdate) error a (refl, refl, tt) refl
+  shut_answers time space number _ error a is = absurd is
+
+  -- a Retry that is taken
+  retry_answers : (m : Meaning t) (time : ℕ) (cid token : List ℕ) (a : At t) → is_unanswered a.state ≡ true → Answers a (renewed_after m time cid token a)
+  unfolding renewed_after armed_after armed_with MayMove
+  retry_answers m time cid token a unanswered =
+      let keys : SpaceKeys t.H t.P = new_keys m.seal_limit m.failure_limit (m.initial a.state.lower.session cid Client) in
+      let b : At t = move_to (Renew time cid token keys) a in
+      answers_next a b _ (renew_move time cid token keys a unanswered)
+      (plain_move (Arm (loss_time b.state (is_blocked b.state.paths) time)) b tt (record { blocked = is_blocked b.state.paths; time = time; set = refl }))
+
+  -- a list of versions that counts
+  parting_move : (time : ℕ) (x : Move t) (a : At t) → IsParting time x → MayMove x a.state → Answers a (move_to x a)
+  parting_move time (PeerCloses at) a h may = plain_move (PeerCloses at) a tt may
+  parting_move time (Give why) a h may = plain_move (Give why) a tt may
+  parting_move time _ a h may = absurd h
+
+  versions_answer : (time : ℕ) (a : At t) → is_unanswered a.state ≡ true → Answers a (left_after time lost.VersionMismatch (piece_told None None verdict.Versions a))
+  unfolding left_after deeds_move MayMove
+  versions_answer time a unanswered =
+      let d : Did = did.Piece None None verdict.Versions in
+      let b : At t = move_to (Tell d) a in
+      answers_next a b _
+      (by_move (Tell d) a (λ tells. ap not unanswered, tt)
+      (λ e. was_false (is_unanswered (state_move (Tell d) a.state)) (is_unanswered a.state) (λ h. stays_unanswered (Tell d) a.state refl tt h) (not_true (is_unanswered a.state) (sym (or_none (not (is_unanswered a.state)) false refl) ∙ e))))
+      (left_by time Answers answers_here answers_next (λ x c h may. parting_move time x c h may) b _ refl)
 
   packet_move : (m : Meaning t) (o : OpenPacket) (x : Move t) (a : At t) → IsInPacket m o x a.state → MayMove x a.state → Answers a (move_to x a)
   unfolding MayMove
@@ -331,7 +378,8 @@ module _ {t : Types} where
 
   datagram_answers : (m : Meaning t) (coming : Coming) (bytes : List ℕ) (a : At t) → Answers a (datagram_after m coming bytes a)
   datagram_answers m coming bytes a =
-      datagram_holds m coming (λ p. Unit {0}) Answers answers_here answers_next (λ x b h may. outside_move coming.time x b h may)
+      datagram_around m coming (λ p. Unit {0}) Answers answers_here answers_next (λ x b h may. around_move coming.time x b h may) (λ space number v error b is. shut_answers coming.time space number v error b is)
+      (λ cid token b r. retry_answers m coming.time cid token b r.unanswered) (λ b r. versions_answer coming.time b r.unanswered)
       (λ p comes o b opened. holds_packet m o Answers answers_here answers_next (λ x c h may. packet_move m o x c h may) b opened.lively) bytes a (λ p among. tt)
 
   input_answers : (m : Meaning t) (i : Input) (choice : Choice) (a : At t) → IsAllowed m i choice a → Answers a (input_after m i choice a)

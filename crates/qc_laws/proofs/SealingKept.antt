@@ -1,6 +1,6 @@
 -- What sealing reads of a view stays over the packets of a transmit: the keys and their epoch, the ids, what was acknowledged, and how long the CRYPTO
 -- streams are.
-use Rattle.std.proofs.Common.{◌≡◌, ℕ, ◌-◌, List, ◌∷◌, [], refl, ap, ◌∙◌, Bool, true, false, Option, Some, None, ◌⊎◌, inl, inr, sym, subst, if◌then◌else◌}
+use Rattle.std.proofs.Common.{◌≡◌, ℕ, ◌-◌, List, ◌∷◌, [], refl, ap, ◌∙◌, Bool, true, false, Option, Some, None, inl, inr, sym, subst, if◌then◌else◌}
 use Rattle.std.specs.List.{list_any}
 use Rattle.std.specs.Option.{option_map}
 use Rattle.qc_base.specs.declared.side.SpaceId.{SpaceId}

@@ -1,11 +1,13 @@
 -- Why this end ends a connection with KEY_UPDATE_ERROR (RFC 9001, sections 6.2, 6.4 and 6.7): a packet that came shows an update which its sender wasn't
 -- allowed to make, or the session refuses with that code what the peer's handshake says. No other packet, timer or transmit has this end close with it.
-use Rattle.std.specs.Prelude.{◌≡◌, ℕ, ◌+◌, List, [], ◌∷◌, ◌++◌, Option, Some, Err}
+-- And behind each such packet an open connection closes.
+use Rattle.std.specs.Prelude.{◌≡◌, ℕ, ◌+◌, ◌<◌, Bool, true, false, List, [], ◌∷◌, ◌++◌, Option, Some, Err}
 use Rattle.qc_base.specs.declared.side.SpaceId.{SpaceId}
 use Rattle.qc_base.specs.declared.transport_error.TransportError.{TransportError}
 use Rattle.qc_state.specs.declared.deeds.Did.{Did}
 use Rattle.qc_state.specs.declared.deeds.Did.TheVariants as did
 use Rattle.qc_state.specs.declared.deeds.Layer.TheVariants as layer
+use Rattle.qc_state.specs.declared.deeds.Verdict.{Verdict}
 use Rattle.qc_state.specs.declared.deeds.Verdict.TheVariants as verdict
 use Rattle.qc_state.specs.declared.input.Input.{Input}
 use Rattle.qc_state.specs.declared.life.ConnectionError.TheVariants as lost
@@ -55,3 +57,30 @@ module _ {t : Types} where
   unfoldable pub EachCauses : Meaning t → ℕ → View t → List Input → List Step → View t → Type 0
   EachCauses m k s (i ∷ is) (x ∷ xs) s' = (mid : View t) × IsStep m k s i x mid × CausesUpdateErrors m s.lower.session x.did × EachCauses m (k + 1) mid is xs s'
   EachCauses m k s is xs s' = Unit {0}
+
+-- ---- and where it has to
+
+-- whether a packet with this verdict shows a fault of its sender's: reserved bits that aren't 0 (RFC 9000, sections 17.2 and 17.3.1), or an update that it
+-- wasn't allowed to make (RFC 9001, sections 6.2 and 6.4)
+abbrev pub shows_fault : Verdict → Bool
+shows_fault verdict.BadBits = true
+shows_fault verdict.BadUpdate = true
+shows_fault _ = false
+
+-- the rank of the life behind these deeds, from the one before them
+abbrev pub rank_behind : (rank : ℕ) → List Did → ℕ
+rank_behind rank [] = rank
+rank_behind rank (did.Rose life ∷ ds) = rank_behind life ds
+rank_behind rank (_ ∷ ds) = rank_behind rank ds
+
+-- the first of these deeds is that this end closed the connection
+abbrev pub ClosesFirst : List Did → Type 0
+ClosesFirst (did.Rose life ∷ ds) = life ≡ 2
+ClosesFirst _ = ⊥
+
+-- an open connection is closed right behind each packet that shows a fault, before anything else is done
+abbrev pub ClosesBehind : (rank : ℕ) → List Did → Type 0
+ClosesBehind rank [] = Unit {0}
+ClosesBehind rank (did.Piece space number v ∷ ds) = (shows_fault v ≡ true → rank < 2 → ClosesFirst ds) × ClosesBehind rank ds
+ClosesBehind rank (did.Rose life ∷ ds) = ClosesBehind life ds
+ClosesBehind rank (_ ∷ ds) = ClosesBehind rank ds

@@ -1,6 +1,6 @@
 -- Laws over whole runs, said of the 1-RTT keys and their updates (RFC 9001, section 6): the keys are the fold of their own steps, and epochs never
 -- fall.
-use Rattle.std.specs.Prelude.{◌≡◌, ◌⊎◌, ℕ, ◌≤◌, ◌&&◌, Bool, true, false, List, [], ◌∷◌, ◌++◌, Option, Some, None, option_map, option_to_list, if◌then◌else◌}
+use Rattle.std.specs.Prelude.{◌≡◌, ◌⊎◌, ℕ, ◌+◌, ◌≤◌, ◌<◌, min, nat_eq, ◌&&◌, Bool, true, false, List, [], ◌∷◌, ◌++◌, Option, Some, None, IsSome, option_map, option_to_list, if◌then◌else◌}
 use Rattle.qc_base.specs.declared.side.SpaceId.{SpaceId}
 use Rattle.qc_base.specs.declared.side.SpaceId.TheVariants.{«Data»}
 use Rattle.qc_frame.specs.Frame.{AckValue}
@@ -35,6 +35,16 @@ pub data KeyStep (H P : Type 0) : Type 0 where
   Updated : (fresh : Option (Fresh P)) → KeyStep H P
   Discarded : KeyStep H P
 
+-- how many of these packets, each with its number and epoch, were sealed in this epoch
+abbrev pub sealed_in : (epoch : ℕ) → List (ℕ × ℕ) → ℕ
+sealed_in epoch [] = 0
+sealed_in epoch (p ∷ ps) = (if nat_eq p.1 epoch then 1 else 0) + sealed_in epoch ps
+
+-- none of them was sealed in a later one
+abbrev pub NoneLater : (epoch : ℕ) → List (ℕ × ℕ) → Type 0
+NoneLater epoch [] = Unit {0}
+NoneLater epoch (p ∷ ps) = (p.1 ≤ epoch) × NoneLater epoch ps
+
 module _ {H P : Type 0} where
   -- what a step leaves: each is one call of the ring, with its number
   abbrev pub key_step : KeyStep H P → Option (OneRttKeys H P) → Option (OneRttKeys H P)
@@ -56,11 +66,11 @@ module _ {H P : Type 0} where
   waits_for_answer (Some k) = k.ring.ring.unanswered
 
   -- Where a step may be made. Keys are given where there are none, in their first epoch, and have sealed nothing. A packet is sealed only under a
-  -- key that may seal one more (RFC 9001, section 6.6). An update of the peer's is followed only where the one before was answered (section 6.2).
+  -- key, which may seal one more (RFC 9001, section 6.6). An update of the peer's is followed only where the one before was answered (section 6.2).
   -- This end updates them only where no keys of the epoch before are kept, and a packet of this epoch was acknowledged (sections 6.1 and 6.5).
   abbrev pub MayStep : KeyStep H P → Option (OneRttKeys H P) → Type 0
   MayStep (Given keys) k = (k ≡ None) × (keys.ring.ring ≡ first_ring) × (keys.ring.count ≡ 0)
-  MayStep (Sealed n) k = reaches_limit 0 (option_map ring_usage k) ≡ false
+  MayStep (Sealed n) k = IsSome k × (reaches_limit 0 (option_map ring_usage k) ≡ false)
   MayStep (Opened n which fresh) k = which ≡ Next → waits_for_answer k ≡ false
   MayStep (Updated fresh) k = ring_may_update k ≡ true
   MayStep _ k = Unit {0}
@@ -75,6 +85,23 @@ module _ {H P : Type 0} where
   sealed_by [] k = []
   sealed_by (Sealed n ∷ xs) k = (n, epoch_with k) ∷ sealed_by xs (key_step (Sealed n) k)
   sealed_by (x ∷ xs) k = sealed_by xs (key_step x k)
+
+  -- Keys count the packets that are sealed under them: where these were all so far, as many as were sealed in their epoch, as far as 64 bits hold the
+  -- count; and none was sealed in a later one. Where there are no keys, none was.
+  abbrev pub AreCounted : (sealed : List (ℕ × ℕ)) → Option (OneRttKeys H P) → Type 0
+  AreCounted sealed None = sealed ≡ []
+  AreCounted sealed (Some k) = (k.ring.count ≡ min (sealed_in k.ring.ring.epoch sealed) 18446744073709551615) × NoneLater k.ring.ring.epoch sealed
+
+  -- behind these packets, fewer were sealed in the epoch of these keys than its key may seal, whose limit has 64 bits
+  abbrev pub MaySealMore : (sealed : List (ℕ × ℕ)) → Option (OneRttKeys H P) → Type 0
+  MaySealMore sealed None = ⊥
+  MaySealMore sealed (Some k) = k.confidentiality_limit ≤ 18446744073709551615 → sealed_in k.ring.ring.epoch sealed < k.confidentiality_limit
+
+  -- each step that seals a packet comes where that is so, behind the packets before it
+  abbrev pub EachMaySeal : (sealed : List (ℕ × ℕ)) → List (KeyStep H P) → Option (OneRttKeys H P) → Type 0
+  EachMaySeal sealed [] k = Unit {0}
+  EachMaySeal sealed (Sealed n ∷ xs) k = MaySealMore sealed k × EachMaySeal (sealed ++ (n, epoch_with k) ∷ []) xs (key_step (Sealed n) k)
+  EachMaySeal sealed (x ∷ xs) k = EachMaySeal sealed xs (key_step x k)
 
   -- the numbers of packets that steps open
   abbrev pub opened_by : List (KeyStep H P) → List ℕ
@@ -155,7 +182,8 @@ module _ {t : Types} where
   -- Those of sealed packets are the ones of the 1-RTT packets that the deeds seal, with their numbers, under the keys of the epochs that are told;
   -- those of opened ones are the ones of the 1-RTT packets that the deeds tell as opened; and acknowledgements are those of the ACKs of 1-RTT
   -- packets that loss recovery was given, with their greatest numbers: each in order, none left out, and none made up. So whatever holds over any
-  -- calls of a ring holds over these.
+  -- calls of a ring holds over these. And each packet is sealed while fewer were sealed in its epoch than its key may seal, those before these steps
+  -- among them (RFC 9001, section 6.6); it is said of epochs that 64 bits hold.
   pub record FoldsKeys (xs : List Step) (s s' : View t) : Type 0 where
     pub steps : List (KeyStep t.H t.P)
     pub may : AllMay steps s.keys.«data»
@@ -163,6 +191,8 @@ module _ {t : Types} where
     pub sealed : sealed_by steps s.keys.«data» ≡ sealed_under (deeds_of xs)
     pub opened : opened_by steps ≡ unsealed_in (deeds_of xs)
     pub acked : AreAcksOf (acked_by steps) (acks_told false (deeds_of xs))
+    pub counted : (before : List (ℕ × ℕ)) → AreCounted before s.keys.«data» → epoch_with s.keys.«data» ≤ 18446744073709551615 → epoch_with s'.keys.«data» < 18446744073709551615 →
+        EachMaySeal before steps s.keys.«data» × AreCounted (before ++ sealed_under (deeds_of xs)) s'.keys.«data»
 
   -- 1-RTT keys are there only where their space is the highest one
   abbrev pub AreLast : View t → Type 0

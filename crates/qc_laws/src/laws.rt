@@ -19,7 +19,7 @@ ghost use Rattle.qc_laws.specs.EventLaws.{EachTells, OnlyDoneWaits, TellsOnce, u
 ghost use Rattle.qc_state.specs.Headline.{deeds_of, accepted_in, is_datagram, AcksOnly, EachAcksKnown, EachNew, Harmless, IsKept, NoneTwice};
 ghost use Rattle.qc_laws.specs.IdLaws.{FoldsIds, IdsHold};
 ghost use Rattle.qc_laws.specs.InitialLaws.{LeavesInitial};
-ghost use Rattle.qc_laws.specs.KeyLaws.{KeysHold};
+ghost use Rattle.qc_laws.specs.KeyLaws.{CountsBehind, KeysHold};
 ghost use Rattle.qc_laws.specs.MarkLaws.{EachTold};
 ghost use Rattle.qc_state.specs.Numbers.{next_number};
 ghost use Rattle.qc_state.specs.Opening.{opening_of};
@@ -31,9 +31,10 @@ ghost use Rattle.qc_state.specs.Receiving.{datagram_after, event_after, first_pa
 ghost use Rattle.qc_laws.specs.PostLaws.{FoldsPosts, HasNewDatagrams, SealsSent, TakesTrace};
 ghost use Rattle.qc_laws.specs.ReadLaws.{HasNewStreams, ReadsTrace};
 ghost use Rattle.qc_rings.specs.declared.which.Which.{Which};
-ghost use Rattle.qc_laws.specs.ReasonLaws.{EachCauses};
+ghost use Rattle.qc_state.specs.Life.{rank_of};
+ghost use Rattle.qc_laws.specs.ReasonLaws.{ClosesBehind, EachCauses};
 ghost use Rattle.qc_laws.specs.RecoveryLaws.{EachSettlesOnce, Recovers};
-ghost use Rattle.qc_laws.specs.RetryLaws.{EachMismatch, HasInitialKeys, TakesOneRetry};
+ghost use Rattle.qc_laws.specs.RetryLaws.{AreOfInputs, EachMismatch, HasSpaceKeys, TakesOneRetry};
 ghost use Rattle.qc_laws.specs.SealLaws.{EachSealsAnswer, KeepsFields, SealsBetween};
 ghost use Rattle.qc_base.specs.declared.side.Side.{Side};
 ghost use Rattle.qc_recovery.specs.TransportValues.{TransportValues};
@@ -129,11 +130,18 @@ pub fn keys_hold<U: Suite>()
     ensures { (s last : View ⟦<U as Means>⟧.types) (k : ℕ) (is : List Input) (xs : List Step) → Run ⟦<U as Means>⟧.meaning k s is xs last → KeysHold s.keys → KeysHold last.keys }
 {}
 
+/// A law, which runs no code. Over a run the Initial and the Handshake keys count the packets that are sealed under them, as the deeds tell them, from
+/// when they were given on; those of the Initial space begin anew where a Retry is taken (RFC 9001, 5.2 and 6.6).
+pub fn keys_count<U: Suite>()
+    ensures { (s last : View ⟦<U as Means>⟧.types) (k : ℕ) (is : List Input) (xs : List Step) → Run ⟦<U as Means>⟧.meaning k s is xs last → CountsBehind (deeds_of xs) s.keys last.keys }
+{}
+
 /// A law, which runs no code. Over a run the 1-RTT keys are what their own steps leave, one after the other, and each step may be made as its
 /// turn comes: they are given once; a packet is sealed under a key that may seal one more; an update of the peer's is followed only where the one
-/// before was answered; this end updates them only where it may. The steps of sealed packets are those of the 1-RTT packets that were sealed, with their epochs, and the steps of opened
-/// ones and of acknowledgements those that the deeds tell: each in order, none left out, and none made up. So their epoch never falls, and
-/// 1-RTT packets are sealed under keys of epochs that never do (RFC 9001, 6).
+/// before was answered; this end updates them only where it may. The steps of sealed packets are those of the 1-RTT packets that were sealed, with
+/// their epochs, and the steps of opened ones and of acknowledgements those that the deeds tell: each in order, none left out, and none made up. So
+/// their epoch never falls, 1-RTT packets are sealed under keys of epochs that never do (RFC 9001, 6), and fewer were sealed in the epoch of each, as
+/// the deeds tell them, than its key may seal (RFC 9001, 6.6).
 pub fn keys_are_folded<U: Suite>()
     ensures folded { (s last : View ⟦<U as Means>⟧.types) (k : ℕ) (is : List Input) (xs : List Step) → Run ⟦<U as Means>⟧.meaning k s is xs last → AreLast s → FoldsKeys xs s last }
     ensures epochs { (s last : View ⟦<U as Means>⟧.types) (k : ℕ) (is : List Input) (xs : List Step) → Run ⟦<U as Means>⟧.meaning k s is xs last → AreLast s → KeepsEpochs xs s last }
@@ -163,6 +171,12 @@ pub fn update_errors_are_caused<U: Suite>()
     ensures { (s last : View ⟦<U as Means>⟧.types) (k : ℕ) (is : List Input) (xs : List Step) → Run ⟦<U as Means>⟧.meaning k s is xs last → EachCauses ⟦<U as Means>⟧.meaning k s is xs last }
 {}
 
+/// A law, which runs no code. Over a run an open connection closes right behind each packet that shows a fault of its sender's, before anything else
+/// is done: reserved bits that aren't 0 (RFC 9000, 17.2 and 17.3.1), or an update that it wasn't allowed to make (RFC 9001, 6.2 and 6.4).
+pub fn faults_close<U: Suite>()
+    ensures { (s last : View ⟦<U as Means>⟧.types) (k : ℕ) (is : List Input) (xs : List Step) → Run ⟦<U as Means>⟧.meaning k s is xs last → ClosesBehind (rank_of s.life.state) (deeds_of xs) }
+{}
+
 /// A law, which runs no code. Over a run a connection of which an end has closed comes to its end: while it is closed, or drains, the
 /// close timer stands (RFC 9000, 10.2), and once it has drained, no timer does; and a close is owed only where an end has closed.
 pub fn ends_hold<U: Suite>()
@@ -178,15 +192,23 @@ pub fn initial_is_left<U: Suite>()
 
 /// A law, which runs no code. Over a run each Retry that is taken is taken by a client that the server hasn't answered: before any packet was accepted,
 /// and before any other Retry was taken, in the run or before it. Behind it, and behind a packet that is accepted, the client is answered; so at most
-/// one Retry is taken over the whole life, and none once a packet was accepted (RFC 9000, 17.2.5.2).
+/// one Retry is taken over the whole life, and none once a packet was accepted (RFC 9000, 17.2.5.2). Nor does a list of versions count then (6.2).
 pub fn one_retry_is_taken<U: Suite>()
     ensures { (s last : View ⟦<U as Means>⟧.types) (k : ℕ) (is : List Input) (xs : List Step) → Run ⟦<U as Means>⟧.meaning k s is xs last → TakesOneRetry (deeds_of xs) s last }
 {}
 
+/// A law, which runs no code. Over a run a Retry that was taken came with an input: its tag fits the destination id of the client's first packets, it has a
+/// token, and another source id than that one; that source id and this token are the ones that Initial packets go by from then on, and without
+/// one these stay (RFC 9000, 17.2.5). And a list of versions that counts came with an input, and lacks this end's (RFC 9000, 6.2).
+pub fn retries_come<U: Suite>()
+    ensures { (s last : View ⟦<U as Means>⟧.types) (k : ℕ) (is : List Input) (xs : List Step) → Run ⟦<U as Means>⟧.meaning k s is xs last → AreOfInputs ⟦<U as Means>⟧.meaning is (deeds_of xs) s last }
+{}
+
 /// A law, which runs no code. Over a run the keys of the Initial space, while there are any, are those that the session gives of the destination id of
-/// the client's first packets, or, once a Retry was taken, of its source id (RFC 9001, 5.2), where they were so at the start.
-pub fn initial_keys_are_named<U: Suite>()
-    ensures { (s last : View ⟦<U as Means>⟧.types) (k : ℕ) (is : List Input) (xs : List Step) → Run ⟦<U as Means>⟧.meaning k s is xs last → HasInitialKeys ⟦<U as Means>⟧.meaning s → HasInitialKeys ⟦<U as Means>⟧.meaning last }
+/// the client's first packets, or, once a Retry was taken, of its source id (RFC 9001, 5.2), and those of the Handshake space ones that the
+/// session gave as it wrote, each with the limits of the key that seals, where they were so at the start.
+pub fn space_keys_are_named<U: Suite>()
+    ensures { (s last : View ⟦<U as Means>⟧.types) (k : ℕ) (is : List Input) (xs : List Step) → Run ⟦<U as Means>⟧.meaning k s is xs last → HasSpaceKeys ⟦<U as Means>⟧.meaning s → HasSpaceKeys ⟦<U as Means>⟧.meaning last }
 {}
 
 /// A law, which runs no code. Over a run VersionMismatch is given as the reason for the end only behind a packet that is told as a list of versions

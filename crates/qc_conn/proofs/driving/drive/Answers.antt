@@ -11,7 +11,7 @@ use Rattle.qc_laws.proofs.FramesAcked.{run_acks_frames}
 use Rattle.qc_laws.proofs.HarmlessBytes.{run_harmless}
 use Rattle.qc_laws.proofs.IdsFold.{run_folds_ids}
 use Rattle.qc_laws.proofs.IdsHold.{run_ids}
-use Rattle.qc_laws.proofs.InitialKeys.{run_initial_keys}
+use Rattle.qc_laws.proofs.SpaceKeysHold.{run_space_keys}
 use Rattle.qc_laws.proofs.InitialLeft.{run_leaves}
 use Rattle.qc_laws.proofs.KeysFold.{run_folds_keys, run_keeps_epochs, run_last}
 use Rattle.qc_laws.proofs.KeysHold.{run_keys_hold}
@@ -26,6 +26,9 @@ use Rattle.qc_laws.proofs.ReadsHold.{run_reads, run_within}
 use Rattle.qc_laws.proofs.Reasons.{run_causes}
 use Rattle.qc_laws.proofs.WritesHold.{run_writes}
 use Rattle.qc_laws.proofs.Recovers.{run_recovers, run_settles_once}
+use Rattle.qc_laws.proofs.KeysCount.{run_counts}
+use Rattle.qc_laws.proofs.FaultsClose.{run_faults_close}
+use Rattle.qc_laws.proofs.RetriesCome.{run_of_inputs}
 use Rattle.qc_laws.proofs.RetriesHold.{run_renews}
 use Rattle.qc_laws.proofs.SealRuns.{run_seals_answers}
 use Rattle.qc_laws.proofs.Steps.{ran_none}
@@ -170,6 +173,9 @@ returns-clause-plain_end g c = λ plain. of_end _ _ _ _ c.drive_all.result _ c.d
 pub returns-clause-recovers : goal.returns-clause-recovers
 returns-clause-recovers g c = λ ends. of_trace _ _ _ _ c.drive_all.result _ c.drive_all.ensures.run (λ trace run. run_recovers _ 0 _ _ trace _ run ends)
 
+pub returns-clause-counts : goal.returns-clause-counts
+returns-clause-counts g c = of_trace _ _ _ _ c.drive_all.result _ c.drive_all.ensures.run (λ trace run. run_counts _ 0 _ _ trace _ run)
+
 pub returns-clause-updates : goal.returns-clause-updates
 returns-clause-updates g c = λ last. of_trace _ _ _ _ c.drive_all.result _ c.drive_all.ensures.run (λ trace run. run_folds_keys _ 0 _ _ trace _ run last)
 
@@ -182,8 +188,11 @@ returns-clause-last g c = λ last. of_end _ _ _ _ c.drive_all.result _ c.drive_a
 pub returns-clause-retry : goal.returns-clause-retry
 returns-clause-retry g c = of_trace _ _ _ _ c.drive_all.result _ c.drive_all.ensures.run (λ trace run. run_renews _ 0 _ _ trace _ run)
 
-pub returns-clause-initial_keys : goal.returns-clause-initial_keys
-returns-clause-initial_keys g c named = of_end _ _ _ _ c.drive_all.result _ c.drive_all.ensures.run (λ trace run. run_initial_keys _ 0 _ _ trace _ run named)
+pub returns-clause-retries : goal.returns-clause-retries
+returns-clause-retries g c = of_trace _ _ _ _ c.drive_all.result _ c.drive_all.ensures.run (λ trace run. run_of_inputs _ 0 _ _ trace _ run)
+
+pub returns-clause-space_keys : goal.returns-clause-space_keys
+returns-clause-space_keys g c named = of_end _ _ _ _ c.drive_all.result _ c.drive_all.ensures.run (λ trace run. run_space_keys _ 0 _ _ trace _ run named)
 
 pub returns-clause-mismatch : goal.returns-clause-mismatch
 returns-clause-mismatch g c = of_trace _ _ _ _ c.drive_all.result _ c.drive_all.ensures.run (λ trace run. run_mismatches _ 0 _ _ trace _ run)
@@ -193,6 +202,9 @@ returns-clause-mismatch_part g c = of_part _ _ _ c.drive_all.result _ c.drive_al
 
 pub returns-clause-update_errors : goal.returns-clause-update_errors
 returns-clause-update_errors g c = of_trace _ _ _ _ c.drive_all.result _ c.drive_all.ensures.run (λ trace run. run_causes _ 0 _ _ trace _ run)
+
+pub returns-clause-faults : goal.returns-clause-faults
+returns-clause-faults g c = of_trace _ _ _ _ c.drive_all.result _ c.drive_all.ensures.run (λ trace run. run_faults_close _ 0 _ _ trace _ run)
 
 pub returns-clause-crypto : goal.returns-clause-crypto
 returns-clause-crypto g c = λ ends. of_trace _ _ _ _ c.drive_all.result _ c.drive_all.ensures.run (λ trace run. run_keeps_bytes _ 0 _ _ trace _ run ends)

@@ -2,7 +2,7 @@ use Rattle.qc_conn.proofs.NewEnds.{first_ends, first_last, first_told}
 use Rattle.qc_conn.proofs.Marks.{new_mark}
 use Rattle.qc_conn.proofs.NewLaws.{first_acks, first_kept, first_new, first_streams, first_timer, first_unposted, first_used}
 use Rattle.qc_conn.proofs.NewIds.{first_new_ids}
-use Rattle.qc_conn.proofs.NewKeys.{first_initial_keys}
+use Rattle.qc_conn.proofs.NewKeys.{first_space_keys}
 use Rattle.std.proofs.Common.{refl}
 use Rattle.qc_conn.proofs.RunsPlain.{first_plain}
 use Rattle.qc_state.specs.View.{ideal}
@@ -61,5 +61,5 @@ pub returns-clause-new_ids : goal.returns-clause-new_ids
 returns-clause-new_ids g c = first_new_ids g.U.Random.Rng.stream _ _ _ _ c.args.setup.remote c.args.setup.first_cid _ _ _ c.args.now c.in_ok-core.core c.in_ok-core.ensures.made
 
 -- its Initial keys are those of the destination id of its first packets
-pub returns-clause-initial_keys : goal.returns-clause-initial_keys
-returns-clause-initial_keys g c = first_initial_keys g.U.Random.Rng.stream _ _ _ _ c.args.setup.remote c.args.setup.first_cid _ _ _ c.args.now c.in_ok-core.core c.in_ok-core.ensures.made refl refl
+pub returns-clause-space_keys : goal.returns-clause-space_keys
+returns-clause-space_keys g c = first_space_keys g.U.Random.Rng.stream _ _ _ _ c.args.setup.remote c.args.setup.first_cid _ _ _ c.args.now c.in_ok-core.core c.in_ok-core.ensures.made refl refl

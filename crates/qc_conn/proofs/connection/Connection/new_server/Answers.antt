@@ -2,7 +2,7 @@ use Rattle.qc_conn.proofs.NewEnds.{server_ends, server_last, server_told}
 use Rattle.qc_conn.proofs.Marks.{new_mark}
 use Rattle.qc_conn.proofs.NewLaws.{server_acks, server_kept, server_new, server_streams, server_timer, server_unposted, server_used}
 use Rattle.qc_conn.proofs.NewIds.{server_new_ids}
-use Rattle.qc_conn.proofs.NewKeys.{server_initial_keys}
+use Rattle.qc_conn.proofs.NewKeys.{server_space_keys}
 use Rattle.std.proofs.Common.{refl}
 use Rattle.qc_conn.proofs.RunsPlain.{server_plain}
 use Rattle.qc_state.specs.View.{ideal}
@@ -61,5 +61,5 @@ pub returns-clause-new_ids : goal.returns-clause-new_ids
 returns-clause-new_ids g c = server_new_ids g.U.Random.Rng.stream _ _ _ _ c.args.setup.remote c.args.setup.remote_cid c.args.setup.validated _ _ c.args.now c.in_ok-core.core c.in_ok-core.ensures
 
 -- its Initial keys are those of the destination id of the client's first packets
-pub returns-clause-initial_keys : goal.returns-clause-initial_keys
-returns-clause-initial_keys g c = server_initial_keys g.U.Random.Rng.stream _ _ _ _ c.args.setup.remote c.args.setup.remote_cid c.args.setup.validated _ _ c.args.now c.in_ok-core.core c.in_ok-core.ensures refl
+pub returns-clause-space_keys : goal.returns-clause-space_keys
+returns-clause-space_keys g c = server_space_keys g.U.Random.Rng.stream _ _ _ _ c.args.setup.remote c.args.setup.remote_cid c.args.setup.validated _ _ c.args.now c.in_ok-core.core c.in_ok-core.ensures refl
