@@ -23,7 +23,7 @@ ghost use Rattle.qc_laws.specs.PieceLaws.{EachTellsPieces};
 ghost use Rattle.qc_state.specs.Headline.{deeds_of, EachRises, EachAdmitted, EachAcksKnown, Harmless, LifeRises, OnlyCloses, LosesOnce};
 ghost use Rattle.qc_laws.specs.PostLaws.{FoldsPosts, HasNewDatagrams, SealsSent, TakesTrace};
 ghost use Rattle.qc_laws.specs.ReadLaws.{HasNewStreams, ReadsTrace};
-ghost use Rattle.qc_laws.specs.ReasonLaws.{ClosesBehind, EachCauses};
+ghost use Rattle.qc_laws.specs.ReasonLaws.{EndsBehind, EachCauses};
 ghost use Rattle.qc_state.specs.Life.{rank_of};
 ghost use Rattle.qc_laws.specs.RetryLaws.{AreOfInputs, EachMismatch, HasSpaceKeys, TakesOneRetry};
 ghost use Rattle.qc_laws.specs.WriteLaws.{SealsWritten};
@@ -389,9 +389,9 @@ pub fn drive<U: Suite, G: TokenStore>(
 
     // This end ends the connection with KEY_UPDATE_ERROR only right behind a packet that shows an update which its sender wasn't allowed to make,
     // or where the session refuses with that code the bytes that it was just given, or the peer's parameters. And right behind such a packet, or
-    // one whose reserved bits aren't 0, an open connection is closed.
+    // one whose reserved bits aren't 0, an open connection is closed; and right behind a list of versions without this end's it drains.
     ensures update_errors { IfOk result (λ trace. EachCauses ⟦<U as Means>⟧.meaning 0 (ideal U.Random.stream connection.old.core) inputs.now trace (ideal U.Random.stream connection.new.core)) }
-    ensures faults { IfOk result (λ trace. ClosesBehind (rank_of connection.old.core.life.state) (deeds_of trace)) }
+    ensures faults { IfOk result (λ trace. EndsBehind (rank_of connection.old.core.life.state) (deeds_of trace)) }
 
     // The session is given the bytes of each space's CRYPTO stream in order, each once: from a new connection on the front of what came.
     ensures streams { (id : SpaceId) → IfOk result (λ trace. GivesStream id (deeds_of trace) (ideal U.Random.stream connection.old.core) (ideal U.Random.stream connection.new.core)) }

@@ -1,5 +1,5 @@
--- Over a run an open connection closes right behind each packet that shows a fault of its sender's.
-use Rattle.std.proofs.Common.{◌≡◌, ℕ, ◌+◌, ◌<◌, List, [], ◌∷◌, ◌++◌, refl, ap, sym, ◌∙◌, subst, Bool, true, false, Option, None, Some, if◌then◌else◌, append_assoc, append-nil, arith}
+-- Over a run an open connection ends right behind each packet that shows a fault of its sender's, and behind a list of versions without this end's.
+use Rattle.std.proofs.Common.{◌≡◌, ℕ, ◌+◌, ◌<◌, List, [], ◌∷◌, ◌++◌, refl, ap, sym, ◌∙◌, subst, Bool, true, false, Option, None, Some, IfSome, if◌then◌else◌, append_assoc, append-nil, arith}
 use Rattle.qc_base.specs.declared.side.Side.TheVariants.{Client}
 use Rattle.qc_base.specs.declared.side.SpaceId.{SpaceId}
 use Rattle.qc_base.specs.declared.side.SpaceId.TheVariants.{Initial}
@@ -36,9 +36,9 @@ use Rattle.qc_state.proofs.PacketMoves.{IsInPacket, IsToldOf, OpenPacket}
 use Rattle.qc_state.proofs.ReceivedMoves.{close_for}
 use Rattle.qc_state.proofs.Telling.{kernel, move_tells, open_rank, told_appends}
 use Rattle.qc_laws.specs.PieceLaws.{pieces_in}
-use Rattle.qc_laws.specs.ReasonLaws.{ClosesBehind, ClosesFirst, rank_behind, shows_fault}
+use Rattle.qc_laws.specs.ReasonLaws.{EndsBehind, RisesFirst, rank_behind, rises_behind}
 use Rattle.qc_laws.proofs.Inputs.{IsOwn, holds_own}
-use Rattle.qc_laws.proofs.Receives.{IsAround, IsParting, IsShunned, IsShutBy, datagram_around, left_by}
+use Rattle.qc_laws.proofs.Receives.{IsAround, IsShunned, IsShutBy, datagram_around}
 use Rattle.qc_laws.proofs.RetriesHold.{IsPlain, plain_deeds}
 
 -- ---- deeds
@@ -46,7 +46,7 @@ use Rattle.qc_laws.proofs.RetriesHold.{IsPlain, plain_deeds}
 -- they tell of no packet that shows a fault
 abbrev AreFaultless : List Did → Type 0
 AreFaultless [] = Unit {0}
-AreFaultless (did.Piece space number v ∷ ds) = (shows_fault v ≡ false) × AreFaultless ds
+AreFaultless (did.Piece space number v ∷ ds) = (rises_behind v ≡ None) × AreFaultless ds
 AreFaultless (_ ∷ ds) = AreFaultless ds
 
 unpieced_faultless : (ds : List Did) → pieces_in ds ≡ [] → AreFaultless ds
@@ -58,23 +58,27 @@ unpieced_faultless (did.Rose life ∷ ds) h = unpieced_faultless ds h
 unpieced_faultless (did.Lost why ∷ ds) h = unpieced_faultless ds h
 unpieced_faultless (did.Quiet why ∷ ds) h = unpieced_faultless ds h
 
-faultless_closes : (rank : ℕ) (ds : List Did) → AreFaultless ds → ClosesBehind rank ds
+faultless_closes : (rank : ℕ) (ds : List Did) → AreFaultless ds → EndsBehind rank ds
 faultless_closes rank [] h = tt
-faultless_closes rank (did.Piece space number v ∷ ds) h = ((λ fault. absurd (let clash : true ≡ false = sym fault ∙ h.0 in cc)), faultless_closes rank ds h.1)
+faultless_closes rank (did.Piece space number v ∷ ds) h = ((λ low. subst (λ (o : Option ℕ). IfSome o (λ life. RisesFirst life ds)) (sym h.0) tt), faultless_closes rank ds h.1)
 faultless_closes rank (did.Gave to body ∷ ds) h = faultless_closes rank ds h
 faultless_closes rank (did.Sealed space n epoch early fs ∷ ds) h = faultless_closes rank ds h
 faultless_closes rank (did.Rose life ∷ ds) h = faultless_closes life ds h
 faultless_closes rank (did.Lost why ∷ ds) h = faultless_closes rank ds h
 faultless_closes rank (did.Quiet why ∷ ds) h = faultless_closes rank ds h
 
-first_append : (xs ys : List Did) → ClosesFirst xs → ClosesFirst (xs ++ ys)
-first_append [] ys h = absurd h
-first_append (did.Rose life ∷ xs) ys h = h
-first_append (did.Piece space number v ∷ xs) ys h = absurd h
-first_append (did.Gave to body ∷ xs) ys h = absurd h
-first_append (did.Sealed space n epoch early fs ∷ xs) ys h = absurd h
-first_append (did.Lost why ∷ xs) ys h = absurd h
-first_append (did.Quiet why ∷ xs) ys h = absurd h
+first_append : (rank : ℕ) (xs ys : List Did) → RisesFirst rank xs → RisesFirst rank (xs ++ ys)
+first_append rank [] ys h = absurd h
+first_append rank (did.Rose life ∷ xs) ys h = h
+first_append rank (did.Piece space number v ∷ xs) ys h = absurd h
+first_append rank (did.Gave to body ∷ xs) ys h = absurd h
+first_append rank (did.Sealed space n epoch early fs ∷ xs) ys h = absurd h
+first_append rank (did.Lost why ∷ xs) ys h = absurd h
+first_append rank (did.Quiet why ∷ xs) ys h = absurd h
+
+some_append : (o : Option ℕ) (xs ys : List Did) → IfSome o (λ life. RisesFirst life xs) → IfSome o (λ life. RisesFirst life (xs ++ ys))
+some_append None xs ys h = tt
+some_append (Some life) xs ys h = first_append life xs ys h
 
 rank_append : (rank : ℕ) (xs ys : List Did) → rank_behind rank (xs ++ ys) ≡ rank_behind (rank_behind rank xs) ys
 rank_append rank [] ys = refl
@@ -85,18 +89,19 @@ rank_append rank (did.Sealed space n epoch early fs ∷ xs) ys = rank_append ran
 rank_append rank (did.Lost why ∷ xs) ys = rank_append rank xs ys
 rank_append rank (did.Quiet why ∷ xs) ys = rank_append rank xs ys
 
-closes_append : (rank : ℕ) (xs ys : List Did) → ClosesBehind rank xs → ClosesBehind (rank_behind rank xs) ys → ClosesBehind rank (xs ++ ys)
+closes_append : (rank : ℕ) (xs ys : List Did) → EndsBehind rank xs → EndsBehind (rank_behind rank xs) ys → EndsBehind rank (xs ++ ys)
 closes_append rank [] ys h g = g
-closes_append rank (did.Piece space number v ∷ xs) ys h g = ((λ fault low. first_append xs ys (h.0 fault low)), closes_append rank xs ys h.1 g)
+closes_append rank (did.Piece space number v ∷ xs) ys h g = ((λ low. some_append (rises_behind v) xs ys (h.0 low)), closes_append rank xs ys h.1 g)
 closes_append rank (did.Rose life ∷ xs) ys h g = closes_append life xs ys h g
 closes_append rank (did.Gave to body ∷ xs) ys h g = closes_append rank xs ys h g
 closes_append rank (did.Sealed space n epoch early fs ∷ xs) ys h g = closes_append rank xs ys h g
 closes_append rank (did.Lost why ∷ xs) ys h g = closes_append rank xs ys h g
 closes_append rank (did.Quiet why ∷ xs) ys h g = closes_append rank xs ys h g
 
-entered_faultless : (v : Verdict) → enters v ≡ true → shows_fault v ≡ false
-entered_faultless verdict.BadBits h = cc
-entered_faultless verdict.BadUpdate h = cc
+entered_faultless : (v : Verdict) → enters v ≡ true → rises_behind v ≡ None
+entered_faultless verdict.BadBits h = absurd cc
+entered_faultless verdict.BadUpdate h = absurd cc
+entered_faultless verdict.Versions h = absurd cc
 entered_faultless _ h = refl
 
 shunned_faultless : (d : Did) → IsShunned d → AreFaultless (d ∷ [])
@@ -132,7 +137,7 @@ closed_rank state.Drained h low = omega (arith, low)
 module _ {t : Types} where
   told_faultless : (o : OpenPacket) (d : Did) (s : View t) → IsToldOf o d s → AreFaultless (d ∷ [])
   told_faultless o (did.Gave to body) s h = tt
-  told_faultless o (did.Piece space number v) s h = (ap shows_fault h.2, tt)
+  told_faultless o (did.Piece space number v) s h = (ap rises_behind h.2, tt)
   told_faultless o _ s h = absurd h
 
   -- ---- from one moment to another
@@ -141,7 +146,7 @@ module _ {t : Types} where
     pub since : List Did
     pub appended : b.did ≡ a.did ++ since
     pub rank : rank_behind (rank_of a.state.life.state) since ≡ rank_of b.state.life.state
-    pub closes : ClosesBehind (rank_of a.state.life.state) since
+    pub closes : EndsBehind (rank_of a.state.life.state) since
 
   closes_here : (a : At t) → Closes a a
   closes_here a = record { since = []; appended = sym (append-nil a.did); rank = refl; closes = tt }
@@ -153,7 +158,7 @@ module _ {t : Types} where
         since = g.since ++ h.since;
         appended = h.appended ∙ ap (λ (x : List Did). x ++ h.since) g.appended ∙ append_assoc a.did g.since h.since;
         rank = rank_append from g.since h.since ∙ ap (λ (r : ℕ). rank_behind r h.since) g.rank ∙ h.rank;
-        closes = closes_append from g.since h.since g.closes (subst (λ (r : ℕ). ClosesBehind r h.since) (sym g.rank) h.closes);
+        closes = closes_append from g.since h.since g.closes (subst (λ (r : ℕ). EndsBehind r h.since) (sym g.rank) h.closes);
       }
 
   faultless_move : (x : Move t) (a : At t) → AreFaultless (deeds_move x a.state) → MayMove x a.state → Closes a (move_to x a)
@@ -204,26 +209,14 @@ module _ {t : Types} where
       closes_next a b _ (faultless_move (Renew time cid token keys) a (refl, tt) unanswered)
       (plain_move (Arm (loss_time b.state (is_blocked b.state.paths) time)) b tt (record { blocked = is_blocked b.state.paths; time = time; set = refl }))
 
-  -- a list of versions that counts
-  parting_move : (time : ℕ) (x : Move t) (a : At t) → IsParting time x → MayMove x a.state → Closes a (move_to x a)
-  parting_move time (PeerCloses at) a h may = plain_move (PeerCloses at) a tt may
-  parting_move time (Give why) a h may = plain_move (Give why) a tt may
-  parting_move time _ a h may = absurd h
-
-  versions_close : (time : ℕ) (a : At t) → Closes a (left_after time lost.VersionMismatch (piece_told None None verdict.Versions a))
-  unfolding left_after MayMove
-  versions_close time a =
-      let b : At t = move_to (Tell (did.Piece None None verdict.Versions)) a in
-      closes_next a b _ (tell_move (did.Piece None None verdict.Versions) a (refl, tt) refl) (left_by time Closes closes_here closes_next (λ x c h may. parting_move time x c h may) b _ refl)
-
   -- ---- this end closes for what a packet shows
 
   -- the deeds behind what tells of it
-  record Behind (a b : At t) : Type 0 where
+  record Behind (rank : ℕ) (a b : At t) : Type 0 where
     pub is : Closes a b
-    pub first : rank_of a.state.life.state < 2 → ClosesFirst is.since
+    pub first : rank_of a.state.life.state < 2 → RisesFirst rank is.since
 
-  shut_by : (time : ℕ) (error : TransportError) (a : At t) (b : Bool) → is_open a.state.life.state ≡ b → Behind a (if b then given_after (lost.TransportError error) (move_to (Shut time (close_for error)) a) else a)
+  shut_by : (time : ℕ) (error : TransportError) (a : At t) (b : Bool) → is_open a.state.life.state ≡ b → Behind 2 a (if b then given_after (lost.TransportError error) (move_to (Shut time (close_for error)) a) else a)
   unfolding deeds_move MayMove closes_next plain_move faultless_move
   shut_by time error a true opened =
       let shut : Move t = Shut time (close_for error) in
@@ -234,22 +227,44 @@ module _ {t : Types} where
       }
   shut_by time error a false opened = record { is = closes_here a; first = λ low. absurd (closed_rank a.state.life.state opened low) }
 
-  shut_closes : (time : ℕ) (error : TransportError) (a : At t) (space : Option SpaceId) (number : ℕ) (v : Verdict) → Closes a (stopped_after time error (move_to (Tell (did.Piece space (Some number) v)) a))
-  unfolding stopped_after move_to deeds_move MayMove state_move life_move
-  shut_closes time error a space number v =
+  -- what tells of the packet, and these behind it
+  behind_tells : (rank : ℕ) (space : Option SpaceId) (number : Option ℕ) (v : Verdict) (a c : At t) → rises_behind v ≡ Some rank → Behind rank (move_to (Tell (did.Piece space number v)) a) c → Closes a c
+  unfolding move_to deeds_move state_move life_move
+  behind_tells rank space number v a c ends behind = record {
+    since = did.Piece space number v ∷ behind.is.since;
+    appended = behind.is.appended ∙ append_assoc a.did (did.Piece space number v ∷ []) behind.is.since;
+    rank = behind.is.rank;
+    closes = ((λ low. subst (λ (o : Option ℕ). IfSome o (λ life. RisesFirst life behind.is.since)) (sym ends) (behind.first low)), behind.is.closes);
+  }
+
+  shut_closes : (time : ℕ) (error : TransportError) (a : At t) (space : Option SpaceId) (number : ℕ) (v : Verdict) → rises_behind v ≡ Some 2 → Closes a (stopped_after time error (move_to (Tell (did.Piece space (Some number) v)) a))
+  unfolding stopped_after
+  shut_closes time error a space number v ends =
       let b : At t = move_to (Tell (did.Piece space (Some number) v)) a in
-      let behind : Behind b (stopped_after time error b) = shut_by time error b (is_open b.state.life.state) refl in
-      record {
-        since = did.Piece space (Some number) v ∷ behind.is.since;
-        appended = behind.is.appended ∙ append_assoc a.did (did.Piece space (Some number) v ∷ []) behind.is.since;
-        rank = behind.is.rank;
-        closes = ((λ fault low. behind.first low), behind.is.closes);
-      }
+      behind_tells 2 space (Some number) v a _ ends (shut_by time error b (is_open b.state.life.state) refl)
 
   shut_for : (time : ℕ) (space : Option SpaceId) (number : ℕ) (v : Verdict) (error : TransportError) (a : At t) → IsShutBy v error → Closes a (stopped_after time error (move_to (Tell (did.Piece space (Some number) v)) a))
-  shut_for time space number verdict.BadBits error a is = shut_closes time error a space number verdict.BadBits
-  shut_for time space number verdict.BadUpdate error a is = shut_closes time error a space number verdict.BadUpdate
+  shut_for time space number verdict.BadBits error a is = shut_closes time error a space number verdict.BadBits refl
+  shut_for time space number verdict.BadUpdate error a is = shut_closes time error a space number verdict.BadUpdate refl
   shut_for time space number _ error a is = absurd is
+
+  -- a list of versions without this end's
+  left_behind : (time : ℕ) (a : At t) (b : Bool) → is_open a.state.life.state ≡ b → Behind 3 a (if b then given_after lost.VersionMismatch (move_to (PeerCloses time) a) else a)
+  unfolding deeds_move MayMove closes_next plain_move faultless_move
+  left_behind time a true opened =
+      let c : At t = move_to (PeerCloses time) a in
+      let low : rank_of a.state.life.state < 2 = open_rank a.state.life.state opened in
+      record {
+        is = closes_next a c _ (plain_move (PeerCloses time) a tt (omega (arith, low))) (given_by Closes closes_here closes_next lost.VersionMismatch c (λ none. plain_move (Give lost.VersionMismatch) c tt none));
+        first = λ low. refl;
+      }
+  left_behind time a false opened = record { is = closes_here a; first = λ low. absurd (closed_rank a.state.life.state opened low) }
+
+  versions_close : (time : ℕ) (a : At t) → Closes a (left_after time lost.VersionMismatch (piece_told None None verdict.Versions a))
+  unfolding left_after
+  versions_close time a =
+      let b : At t = move_to (Tell (did.Piece None None verdict.Versions)) a in
+      behind_tells 3 None None verdict.Versions a _ refl (left_behind time b (is_open b.state.life.state) refl)
 
   -- ---- inputs
 
@@ -266,20 +281,20 @@ module _ {t : Types} where
 
   -- ---- steps and runs
 
-  step_closes : (m : Meaning t) (k : ℕ) (s : View t) (i : Input) (x : Step) (s' : View t) → IsStep m k s i x s' → (rank_behind (rank_of s.life.state) x.did ≡ rank_of s'.life.state) × ClosesBehind (rank_of s.life.state) x.did
+  step_closes : (m : Meaning t) (k : ℕ) (s : View t) (i : Input) (x : Step) (s' : View t) → IsStep m k s i x s' → (rank_behind (rank_of s.life.state) x.did ≡ rank_of s'.life.state) × EndsBehind (rank_of s.life.state) x.did
   unfolding called began step_after reported state_move life_move ready_reported connected_reported all_heard_reported lost_reported notices_reported drained_reported
   step_closes m k s i x s' h =
       let a : At t = began s (time_of i) in
       let g : Closes a (input_after m i h.choice a) = input_closes m i h.choice a h.allowed in
       let deeds : g.since ≡ x.did = sym (h.deeds ∙ g.appended) in
       let life : rank_of (input_after m i h.choice a).state.life.state ≡ rank_of s'.life.state = sym (ap (λ (l : Life). rank_of l.state) h.life) in
-      (subst (λ (ds : List Did). rank_behind (rank_of s.life.state) ds ≡ rank_of s'.life.state) deeds (g.rank ∙ life), subst (λ (ds : List Did). ClosesBehind (rank_of s.life.state) ds) deeds g.closes)
+      (subst (λ (ds : List Did). rank_behind (rank_of s.life.state) ds ≡ rank_of s'.life.state) deeds (g.rank ∙ life), subst (λ (ds : List Did). EndsBehind (rank_of s.life.state) ds) deeds g.closes)
 
-  pub run_faults_close : (m : Meaning t) (k : ℕ) (s : View t) (is : List Input) (xs : List Step) (s' : View t) → Run m k s is xs s' → ClosesBehind (rank_of s.life.state) (deeds_of xs)
+  pub run_faults_close : (m : Meaning t) (k : ℕ) (s : View t) (is : List Input) (xs : List Step) (s' : View t) → Run m k s is xs s' → EndsBehind (rank_of s.life.state) (deeds_of xs)
   unfolding Run
   run_faults_close m k s [] [] s' r = tt
   run_faults_close m k s (i ∷ is) (x ∷ xs) s' r =
       let g = step_closes m k s i x r.0 r.1 in
-      closes_append (rank_of s.life.state) x.did (deeds_of xs) g.1 (subst (λ (n : ℕ). ClosesBehind n (deeds_of xs)) (sym g.0) (run_faults_close m (k + 1) r.0 is xs s' r.2))
+      closes_append (rank_of s.life.state) x.did (deeds_of xs) g.1 (subst (λ (n : ℕ). EndsBehind n (deeds_of xs)) (sym g.0) (run_faults_close m (k + 1) r.0 is xs s' r.2))
   run_faults_close m k s [] (x ∷ xs) s' r = absurd r
   run_faults_close m k s (i ∷ is) [] s' r = absurd r

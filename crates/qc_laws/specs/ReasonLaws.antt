@@ -1,7 +1,7 @@
 -- Why this end ends a connection with KEY_UPDATE_ERROR (RFC 9001, sections 6.2, 6.4 and 6.7): a packet that came shows an update which its sender wasn't
 -- allowed to make, or the session refuses with that code what the peer's handshake says. No other packet, timer or transmit has this end close with it.
--- And behind each such packet an open connection closes.
-use Rattle.std.specs.Prelude.{◌≡◌, ℕ, ◌+◌, ◌<◌, Bool, true, false, List, [], ◌∷◌, ◌++◌, Option, Some, Err}
+-- And behind which packets an open connection ends at once.
+use Rattle.std.specs.Prelude.{◌≡◌, ℕ, ◌+◌, ◌<◌, List, [], ◌∷◌, ◌++◌, Option, None, Some, IfSome, Err}
 use Rattle.qc_base.specs.declared.side.SpaceId.{SpaceId}
 use Rattle.qc_base.specs.declared.transport_error.TransportError.{TransportError}
 use Rattle.qc_state.specs.declared.deeds.Did.{Did}
@@ -60,12 +60,14 @@ module _ {t : Types} where
 
 -- ---- and where it has to
 
--- whether a packet with this verdict shows a fault of its sender's: reserved bits that aren't 0 (RFC 9000, sections 17.2 and 17.3.1), or an update that it
--- wasn't allowed to make (RFC 9001, sections 6.2 and 6.4)
-abbrev pub shows_fault : Verdict → Bool
-shows_fault verdict.BadBits = true
-shows_fault verdict.BadUpdate = true
-shows_fault _ = false
+-- To what life an open connection rises behind a packet with this verdict. It is closed where the packet shows a fault of its sender's: reserved bits that
+-- aren't 0 (RFC 9000, sections 17.2 and 17.3.1), or an update that it wasn't allowed to make (RFC 9001, sections 6.2 and 6.4). And it drains behind a
+-- list of versions without this end's (RFC 9000, section 6.2).
+abbrev pub rises_behind : Verdict → Option ℕ
+rises_behind verdict.BadBits = Some 2
+rises_behind verdict.BadUpdate = Some 2
+rises_behind verdict.Versions = Some 3
+rises_behind _ = None
 
 -- the rank of the life behind these deeds, from the one before them
 abbrev pub rank_behind : (rank : ℕ) → List Did → ℕ
@@ -73,14 +75,14 @@ rank_behind rank [] = rank
 rank_behind rank (did.Rose life ∷ ds) = rank_behind life ds
 rank_behind rank (_ ∷ ds) = rank_behind rank ds
 
--- the first of these deeds is that this end closed the connection
-abbrev pub ClosesFirst : List Did → Type 0
-ClosesFirst (did.Rose life ∷ ds) = life ≡ 2
-ClosesFirst _ = ⊥
+-- the first of these deeds is that the life rose to this rank
+abbrev pub RisesFirst : (rank : ℕ) → List Did → Type 0
+RisesFirst rank (did.Rose life ∷ ds) = life ≡ rank
+RisesFirst rank _ = ⊥
 
--- an open connection is closed right behind each packet that shows a fault, before anything else is done
-abbrev pub ClosesBehind : (rank : ℕ) → List Did → Type 0
-ClosesBehind rank [] = Unit {0}
-ClosesBehind rank (did.Piece space number v ∷ ds) = (shows_fault v ≡ true → rank < 2 → ClosesFirst ds) × ClosesBehind rank ds
-ClosesBehind rank (did.Rose life ∷ ds) = ClosesBehind life ds
-ClosesBehind rank (_ ∷ ds) = ClosesBehind rank ds
+-- an open connection does so right behind each such packet, before anything else is done
+abbrev pub EndsBehind : (rank : ℕ) → List Did → Type 0
+EndsBehind rank [] = Unit {0}
+EndsBehind rank (did.Piece space number v ∷ ds) = (rank < 2 → IfSome (rises_behind v) (λ life. RisesFirst life ds)) × EndsBehind rank ds
+EndsBehind rank (did.Rose life ∷ ds) = EndsBehind life ds
+EndsBehind rank (_ ∷ ds) = EndsBehind rank ds

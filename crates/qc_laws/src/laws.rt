@@ -32,7 +32,7 @@ ghost use Rattle.qc_laws.specs.PostLaws.{FoldsPosts, HasNewDatagrams, SealsSent,
 ghost use Rattle.qc_laws.specs.ReadLaws.{HasNewStreams, ReadsTrace};
 ghost use Rattle.qc_rings.specs.declared.which.Which.{Which};
 ghost use Rattle.qc_state.specs.Life.{rank_of};
-ghost use Rattle.qc_laws.specs.ReasonLaws.{ClosesBehind, EachCauses};
+ghost use Rattle.qc_laws.specs.ReasonLaws.{EndsBehind, EachCauses};
 ghost use Rattle.qc_laws.specs.RecoveryLaws.{EachSettlesOnce, Recovers};
 ghost use Rattle.qc_laws.specs.RetryLaws.{AreOfInputs, EachMismatch, HasSpaceKeys, TakesOneRetry};
 ghost use Rattle.qc_laws.specs.SealLaws.{EachSealsAnswer, KeepsFields, SealsBetween};
@@ -171,10 +171,11 @@ pub fn update_errors_are_caused<U: Suite>()
     ensures { (s last : View ⟦<U as Means>⟧.types) (k : ℕ) (is : List Input) (xs : List Step) → Run ⟦<U as Means>⟧.meaning k s is xs last → EachCauses ⟦<U as Means>⟧.meaning k s is xs last }
 {}
 
-/// A law, which runs no code. Over a run an open connection closes right behind each packet that shows a fault of its sender's, before anything else
-/// is done: reserved bits that aren't 0 (RFC 9000, 17.2 and 17.3.1), or an update that it wasn't allowed to make (RFC 9001, 6.2 and 6.4).
+/// A law, which runs no code. Over a run an open connection ends right behind each packet that shows a fault of its sender's, before anything else
+/// is done: it is closed where the packet's reserved bits aren't 0 (RFC 9000, 17.2 and 17.3.1), or where it shows an update that its sender wasn't
+/// allowed to make (RFC 9001, 6.2 and 6.4); and it drains behind a list of versions without this end's (RFC 9000, 6.2).
 pub fn faults_close<U: Suite>()
-    ensures { (s last : View ⟦<U as Means>⟧.types) (k : ℕ) (is : List Input) (xs : List Step) → Run ⟦<U as Means>⟧.meaning k s is xs last → ClosesBehind (rank_of s.life.state) (deeds_of xs) }
+    ensures { (s last : View ⟦<U as Means>⟧.types) (k : ℕ) (is : List Input) (xs : List Step) → Run ⟦<U as Means>⟧.meaning k s is xs last → EndsBehind (rank_of s.life.state) (deeds_of xs) }
 {}
 
 /// A law, which runs no code. Over a run a connection of which an end has closed comes to its end: while it is closed, or drains, the
