@@ -3,14 +3,14 @@
 ghost use Rattle.std.specs.Prelude.{◌≡◌, IfOk};
 
 use anyhow::{Result, bail};
-use qc_base::{ConnectionId, Fault, Instant, Side};
-use qc_config::{NoneTokenStore, announced};
+use qc_base::{ConnectionId, Fault, Instant, Side, SystemTime};
+use qc_config::{FixedTime, NoneTokenStore, announced};
 use qc_conn::{ClientSetup, Connection, ServerSetup};
 use qc_crypto::{ClientConfig, ServerConfig, Session};
 use qc_path::NewRenoConfig;
 use qc_recovery::TransportConfig;
 use qc_state::{EndpointEvent, Event, Suite};
-use qc_toy::{ToyClient, ToyServer, ToySession, ToySettings, ZeroRandom};
+use qc_toy::{ToyClient, ToyServer, ToySession, ToySettings, ToyTokenKey, ZeroRandom};
 use std::alloc::Global;
 use std::default::Default;
 use std::net::{IpAddr, Ipv6Addr, SocketAddr};
@@ -30,6 +30,10 @@ impl Suite for Toy {
     type Control = NewRenoConfig;
 
     type Random = ZeroRandom;
+
+    type TokenKey = ToyTokenKey;
+
+    type Time = FixedTime;
 }
 
 /// This host, at a port.
@@ -130,6 +134,9 @@ fn server_setup(alloc: Global) -> Result<ServerSetup<Toy>>
         version: 1,
         allow_mtud: false,
         remote_cid: client_id(),
+        token_key: ToyTokenKey::new([0; 16]),
+        time: FixedTime(SystemTime::from_nanos(0)),
+        sent: 0,
         migration: true,
         preferred: false,
         validated: false,

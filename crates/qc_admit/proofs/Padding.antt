@@ -1,5 +1,5 @@
 -- The frames that are left of a payload, behind a run of PADDING.
-use Rattle.std.proofs.Common.{◌≡◌, ◌<◌, ℕ, zero, suc, List, [], ◌∷◌, ◌++◌, length, replicate, refl, ap, sym, ◌∙◌, Bool, true, false, Option, None, Result, Ok, Err, arith, length-append}
+use Rattle.std.proofs.Common.{◌≡◌, ◌<◌, ℕ, zero, suc, List, [], ◌∷◌, ◌++◌, length, replicate, refl, ap, sym, ◌∙◌, subst, Bool, true, false, Option, None, Result, Ok, Err, arith, append-nil, length-append}
 use Rattle.std.specs.Prelude.{OnOk}
 use Rattle.std.specs.Borrow.{Bor}
 use Rattle.std.specs.declared.alloc.AllocError.{AllocError}
@@ -8,7 +8,9 @@ use Rattle.qc_base.specs.declared.side.SpaceId.{SpaceId}
 use Rattle.qc_base.specs.declared.side.SpaceId.TheVariants.{Initial, Handshake, «Data»}
 use Rattle.qc_base.specs.declared.transport_error.TransportError.{TransportError}
 use Rattle.qc_admit.specs.Behind.{course_of}
-use Rattle.qc_frame.specs.Frame.{typed}
+use Rattle.qc_admit.specs.Items.{IsLeft, NextIs}
+use Rattle.qc_admit.specs.declared.behind.Left.{Left}
+use Rattle.qc_admit.specs.declared.behind.Left.TheVariants.{End, Fault}
 use Rattle.qc_frame.specs.declared.frames.FrameOf.TheVariants as frames
 use Rattle.qc_frame.specs.Payload.{Item, items_of, item_view, padding_item}
 use Rattle.qc_frame.specs.declared.fault.InvalidFrame.{InvalidFrame}
@@ -32,9 +34,18 @@ no_stop side Initial next skipped type = refl
 no_stop side Handshake next skipped type = refl
 no_stop side «Data» next skipped type = refl
 
--- behind PADDING and one item fewer are left
-pub fewer_left : (n : ℕ) (old new rest : List ℕ) (item : Item) → items_of old ≡ replicate n padding_item ++ items_of new → items_of new ≡ item ∷ items_of rest → length (items_of rest) < length (items_of old)
-fewer_left n old new rest item padded steps = omega (arith, ap length padded, length-append (replicate n padding_item) (items_of new), ap length steps)
+-- the next item and how it is read, behind a run of PADDING that was skipped
+pub next_read : (n : ℕ) (old mid : List ℕ) (rest : List Item) (item : Result (TypedOf (Bor (List ℕ))) InvalidFrame) (view : Item) → items_of old ≡ replicate n padding_item ++ items_of mid → items_of mid ≡ item_view item ∷ rest → item_view item ≡ view →
+    NextIs view rest (items_of old)
+next_read n old mid rest item view skipped steps is = (n, skipped ∙ ap (λ (items : List Item). replicate n padding_item ++ items) (steps ∙ ap (λ (x : Item). x ∷ rest) is))
+
+-- nothing is next
+pub none_read : (n : ℕ) (old mid : List ℕ) → items_of old ≡ replicate n padding_item ++ items_of mid → items_of mid ≡ [] → IsLeft End (items_of old)
+none_read n old mid skipped none = (n, skipped ∙ ap (λ (items : List Item). replicate n padding_item ++ items) none ∙ append-nil (replicate n padding_item))
+
+-- behind the next item fewer are left
+pub fewer_left : (item : Item) (rest old : List Item) → NextIs item rest old → length rest < length old
+fewer_left item rest old next = omega (arith, ap length next.1, length-append (replicate next.0 padding_item) (item ∷ rest))
 
 module _ {t : Types} (m : Meaning t) (coming : Coming) (space : SpaceId) where
   -- what frames make of what those before them made
@@ -51,46 +62,40 @@ module _ {t : Types} (m : Meaning t) (coming : Coming) (space : SpaceId) where
   padding_does_nothing zero items course = refl
   padding_does_nothing (suc n) items course = ap (λ (c : receiving.Course t). rest_after (replicate n padding_item ++ items) c) (padding_one course) ∙ padding_does_nothing n items course
 
-  -- a run of PADDING in front makes no difference
-  behind_padding : (n : ℕ) (old new : List ℕ) (course : receiving.Course t) → items_of old ≡ replicate n padding_item ++ items_of new → rest_after (items_of new) course ≡ rest_after (items_of old) course
-  behind_padding n old new course is = sym (padding_does_nothing n (items_of new) course) ∙ ap (λ (items : List Item). rest_after items course) (sym is)
-
-  -- behind it an item is left in front
-  item_left : (n : ℕ) (old new rest : List ℕ) (item : Result (TypedOf (Bor (List ℕ))) InvalidFrame) (view : Item) (course : receiving.Course t) → items_of old ≡ replicate n padding_item ++ items_of new → items_of new ≡ item_view item ∷ items_of rest → item_view item ≡ view →
-      rest_after (items_of rest) (item_after m coming space view course) ≡ rest_after (items_of old) course
-  item_left n old new rest item view course padded steps is =
-      ap (λ (items : List Item). rest_after items course) (sym (steps ∙ ap (λ (x : Item). x ∷ items_of rest) is)) ∙ behind_padding n old new course padded
+  -- what all items make, the next one and those behind it make
+  next_made : (item : Item) (rest old : List Item) (course : receiving.Course t) → NextIs item rest old → rest_after rest (item_after m coming space item course) ≡ rest_after old course
+  next_made item rest old course next = sym (padding_does_nothing next.0 (item ∷ rest) course) ∙ ap (λ (items : List Item). rest_after items course) (sym next.1)
 
   -- nothing is left
-  pub none_more : (n : ℕ) (old new : List ℕ) (close : Option ConnectionError) (a : At t) (target : receiving.Course t) → items_of old ≡ replicate n padding_item ++ items_of new → items_of new ≡ [] →
-      rest_after (items_of old) (Reads close a) ≡ target → Reads close a ≡ target
-  none_more n old new close a target padded none h = ap (λ (items : List Item). rest_after items (Reads close a)) (sym none) ∙ behind_padding n old new (Reads close a) padded ∙ h
+  pub none_more : (left : Left) (old : List Item) (close : Option ConnectionError) (a : At t) (target : receiving.Course t) → IsLeft left old → left ≡ End → rest_after old (Reads close a) ≡ target → Reads close a ≡ target
+  none_more left old close a target none is h = none_by (subst (λ (x : Left). IsLeft x old) is none)
+    where
+      none_by : IsLeft End old → Reads close a ≡ target
+      none_by none =
+          sym (padding_does_nothing none.0 [] (Reads close a)) ∙ ap (λ (items : List Item). rest_after items (Reads close a)) (append-nil (replicate none.0 padding_item) ∙ sym none.1) ∙ h
 
   -- bytes that are no frame are left
-  pub fault_more : (n : ℕ) (old new rest : List ℕ) (item : Result (TypedOf (Bor (List ℕ))) InvalidFrame) (fault : InvalidFrame) (error : TransportError) (close : Option ConnectionError) (a b : At t) (target : receiving.Course t) →
-      items_of old ≡ replicate n padding_item ++ items_of new → items_of new ≡ item_view item ∷ items_of rest → item ≡ Err fault → error.code ≡ 7 → error.frame ≡ fault.ty → b ≡ stopped_after coming.time error a →
-      rest_after (items_of old) (Reads close a) ≡ target → Ended b ≡ target
-  fault_more n old new rest item fault error close a b target padded steps is is_code frame stops h =
-      ap (λ (x : At t). Ended x) (stops ∙ ap (λ (x : TransportError). stopped_after coming.time x a) (same_error error fault.ty is_code frame))
-      ∙ sym (ended_stays m coming space (items_of rest) (stopped_after coming.time (encoding_error_at fault.ty) a))
-      ∙ item_left n old new rest item (Err fault) (Reads close a) padded steps (ap item_view is) ∙ h
+  pub fault_more : (left : Left) (old : List Item) (fault : InvalidFrame) (error : TransportError) (close : Option ConnectionError) (a b : At t) (target : receiving.Course t) →
+      IsLeft left old → left ≡ Fault fault → error.code ≡ 7 → error.frame ≡ fault.ty → b ≡ stopped_after coming.time error a → rest_after old (Reads close a) ≡ target → Ended b ≡ target
+  fault_more left old fault error close a b target none is is_code frame stops h = fault_by (subst (λ (x : Left). IsLeft x old) is none)
+    where
+      fault_by : IsLeft (Fault fault) old → Ended b ≡ target
+      fault_by none =
+          ap (λ (x : At t). Ended x) (stops ∙ ap (λ (x : TransportError). stopped_after coming.time x a) (same_error error fault.ty is_code frame))
+          ∙ sym (ended_stays m coming space none.0 (stopped_after coming.time (encoding_error_at fault.ty) a))
+          ∙ next_made (Err fault) none.0 old (Reads close a) none.1 ∙ h
 
   -- a frame is left, behind which the others are next
-  pub one_left : (n : ℕ) (old new rest : List ℕ) (item : Result (TypedOf (Bor (List ℕ))) InvalidFrame) (read : TypedOf (Bor (List ℕ))) (goes : Bool) (close next : Option ConnectionError) (a b : At t) (target : receiving.Course t) →
-      items_of old ≡ replicate n padding_item ++ items_of new → items_of new ≡ item_view item ∷ items_of rest → item ≡ Ok read → goes ≡ true → course_of goes next b ≡ item_after m coming space (Ok (typed read)) (Reads close a) →
-      rest_after (items_of old) (Reads close a) ≡ target → rest_after (items_of rest) (Reads next b) ≡ target
-  one_left n old new rest item read goes close next a b target padded steps is e leaves h =
-      ap (λ (c : receiving.Course t). rest_after (items_of rest) c) (ap (λ (x : Bool). course_of x next b) (sym e) ∙ leaves)
-      ∙ item_left n old new rest item (Ok (typed read)) (Reads close a) padded steps (ap item_view is) ∙ h
+  pub one_left : (item : Item) (rest old : List Item) (goes : Bool) (close next : Option ConnectionError) (a b : At t) (target : receiving.Course t) → NextIs item rest old → goes ≡ true →
+      course_of goes next b ≡ item_after m coming space item (Reads close a) → rest_after old (Reads close a) ≡ target → rest_after rest (Reads next b) ≡ target
+  one_left item rest old goes close next a b target is e leaves h =
+      ap (λ (c : receiving.Course t). rest_after rest c) (ap (λ (x : Bool). course_of x next b) (sym e) ∙ leaves) ∙ next_made item rest old (Reads close a) is ∙ h
 
   -- a frame ended the packet
-  pub ended_left : (n : ℕ) (old new rest : List ℕ) (item : Result (TypedOf (Bor (List ℕ))) InvalidFrame) (read : TypedOf (Bor (List ℕ))) (goes : Bool) (close next : Option ConnectionError) (a b : At t) (target : receiving.Course t) →
-      items_of old ≡ replicate n padding_item ++ items_of new → items_of new ≡ item_view item ∷ items_of rest → item ≡ Ok read → goes ≡ false → course_of goes next b ≡ item_after m coming space (Ok (typed read)) (Reads close a) →
-      rest_after (items_of old) (Reads close a) ≡ target → Ended b ≡ target
-  ended_left n old new rest item read goes close next a b target padded steps is e leaves h =
-      sym (ended_stays m coming space (items_of rest) b)
-      ∙ ap (λ (c : receiving.Course t). rest_after (items_of rest) c) (ap (λ (x : Bool). course_of x next b) (sym e) ∙ leaves)
-      ∙ item_left n old new rest item (Ok (typed read)) (Reads close a) padded steps (ap item_view is) ∙ h
+  pub ended_left : (item : Item) (rest old : List Item) (goes : Bool) (close next : Option ConnectionError) (a b : At t) (target : receiving.Course t) → NextIs item rest old → goes ≡ false →
+      course_of goes next b ≡ item_after m coming space item (Reads close a) → rest_after old (Reads close a) ≡ target → Ended b ≡ target
+  ended_left item rest old goes close next a b target is e leaves h =
+      sym (ended_stays m coming space rest b) ∙ ap (λ (c : receiving.Course t). rest_after rest c) (ap (λ (x : Bool). course_of x next b) (sym e) ∙ leaves) ∙ next_made item rest old (Reads close a) is ∙ h
 
   -- behind the last frame
   pub end_reached : (r : Result (Unit {0}) AllocError) (goes : Bool) (close : Option ConnectionError) (a b : At t) (course : receiving.Course t) → goes ≡ true → course_of goes close a ≡ course → OnOk r (b ≡ end_after m coming space (Reads close a)) →

@@ -114,6 +114,7 @@ module _ {t : Types} {R : Type 0} (m : Meaning t) (stream : R → Stream) where
               waiting = w.waiting;
               setup = ideal_setup stream w.setup;
               lower = lower i;
+              issuer = w.issuer;
             };
             did = deeds i;
           },

@@ -1,5 +1,6 @@
 //! How the frames of a packet go on.
 
+use qc_frame::InvalidFrame;
 use qc_state::ConnectionError;
 
 /// What a frame leaves of its packet.
@@ -11,4 +12,13 @@ pub(crate) enum Behind {
     Closes(ConnectionError),
     /// It ends its packet.
     Ends,
+}
+
+/// Why no frame is next in a payload.
+#[derive(Drop)]
+pub(crate) enum Left {
+    /// Nothing is left of it.
+    End,
+    /// What is left begins with no frame.
+    Fault(InvalidFrame),
 }

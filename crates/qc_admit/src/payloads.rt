@@ -1,8 +1,9 @@
 //! What the frames of a packet do, one after the other.
 
-ghost use Rattle.std.specs.Prelude.{◌≡◌, None, Some, Ok, OnOk, IfOk};
+ghost use Rattle.std.specs.Prelude.{◌≡◌, None, Some, Ok, OnOk, IfOk, IfErr};
 ghost use Rattle.std.specs.List.{All, list_any};
 ghost use Rattle.qc_admit.specs.Behind.{course_of};
+ghost use Rattle.qc_admit.specs.Items.{IsLeft, NextIs};
 ghost use Rattle.qc_frame.specs.Frame.{borrowed, typed};
 ghost use Rattle.qc_frame.specs.FrameFits.{Fits};
 ghost use Rattle.qc_frame.specs.Payload.{items_of};
@@ -10,7 +11,7 @@ ghost use Rattle.qc_state.specs.Receiving.{Reads, closed_in_data, end_after, is_
 ghost use Rattle.qc_state.specs.View.{held};
 ghost use Rattle.qc_state.specs.Moves.{is_close};
 
-use crate::behind::Behind;
+use crate::behind::{Behind, Left};
 use crate::frames::{left, one_frame};
 use crate::handshake::progress;
 use qc_base::{Instant, SpaceId, TransportErrorCode};
@@ -136,6 +137,21 @@ fn one_more<U: Suite>(
     }
 }
 
+/// The next frame of a payload, behind a run of PADDING, which does nothing (RFC 9000, section 19.1); or why there is none.
+fn next_frame<'a>(frames: &mut Iter<'a>) -> Result<TypedFrame<'a>, Left>
+    requires { All (λ item. IfOk item (λ read. Fits read.frame)) (items_of frames.old) }
+    ensures next { IfOk result (λ read. NextIs (Ok (typed read)) (items_of frames.new) (items_of frames.old)) }
+    ensures fits { IfOk result (λ read. Fits (borrowed read.frame)) }
+    ensures left { IfErr result (λ left. IsLeft left (items_of frames.old)) }
+{
+    let _skipped = frames.skip_padding();
+    match frames.next() {
+        None => Err(Left::End),
+        Some(Err(fault)) => Err(Left::Fault(fault)),
+        Some(Ok(read)) => Ok(read),
+    }
+}
+
 /// The frames of a packet, in order, up to the first stop, or the first close of an Initial or Handshake packet; `close` is the last close
 /// so far. Answers whether none of them ended the packet.
 fn each<U: Suite>(
@@ -152,15 +168,14 @@ fn each<U: Suite>(
 {
     let mut frames = frames;
     loop {
-        let _skipped = frames.skip_padding();
-        match frames.next() {
-            None => return Ok(true),
-            Some(Err(fault)) => {
+        match next_frame(&mut frames) {
+            Err(Left::End) => return Ok(true),
+            Err(Left::Fault(fault)) => {
                 let error = error_at(TransportErrorCode::FRAME_ENCODING_ERROR, fault.ty);
                 core.stopped(did, coming.time, error)?;
                 return Ok(false);
             }
-            Some(Ok(read)) => {
+            Ok(read) => {
                 if !one_more(core, alloc, did, coming, space, &read, close)? {
                     return Ok(false);
                 }

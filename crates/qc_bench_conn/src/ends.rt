@@ -4,8 +4,8 @@
 ghost use Rattle.std.specs.Prelude.{◌≡◌, IfOk};
 
 use bytes::BytesMut;
-use qc_base::{ConnectionId, Fault, Instant, Side, VarInt};
-use qc_config::{NoneTokenStore, announced};
+use qc_base::{ConnectionId, Fault, Instant, Side, SystemTime, VarInt};
+use qc_config::{FixedTime, NoneTokenStore, announced};
 use qc_conn::{ClientSetup, Connection, ConnectionEvent, ServerSetup, drive};
 use qc_crypto::{ClientConfig, ServerConfig, Session};
 use qc_header::PartialDecode;
@@ -13,7 +13,7 @@ use qc_params::TransportParameters;
 use qc_path::NewRenoConfig;
 use qc_recovery::TransportConfig;
 use qc_state::{Answer, Input, Suite, Trace};
-use qc_toy::{ToyClient, ToyServer, ToySession, ToySettings, ZeroRandom};
+use qc_toy::{ToyClient, ToyServer, ToySession, ToySettings, ToyTokenKey, ZeroRandom};
 use std::alloc::{AllocError, Global};
 use std::default::Default;
 use std::net::{IpAddr, Ipv4Addr, SocketAddr};
@@ -28,6 +28,10 @@ impl Suite for Toy {
     type Control = NewRenoConfig;
 
     type Random = ZeroRandom;
+
+    type TokenKey = ToyTokenKey;
+
+    type Time = FixedTime;
 }
 
 /// The greatest UDP payload that an end takes, in bytes.
@@ -141,6 +145,9 @@ fn server_setup(alloc: Global, streams: u32) -> Result<ServerSetup<Toy>, AllocEr
         version: 1,
         allow_mtud: false,
         remote_cid: ConnectionId::new(&[2; 8]),
+        token_key: ToyTokenKey::new([0; 16]),
+        time: FixedTime(SystemTime::from_nanos(0)),
+        sent: 0,
         migration: true,
         preferred: false,
         validated: false,

@@ -1,12 +1,15 @@
 -- The first datagram of a server, by a call of its own.
-use Rattle.std.proofs.Common.{◌≡◌, ℕ, List, [], ap, sym, ◌∙◌, Bool, true, false, Option, None}
+use Rattle.std.proofs.Common.{◌≡◌, ◌≤◌, ℕ, List, [], length, refl, ap, sym, ◌∙◌, Bool, true, false, if◌then◌else◌, nat_lt, Option, None, Some, arith}
+use Rattle.std.proofs.lemmas.Bool.Decides.{nat_tests}
 use Rattle.std.specs.Global.{Global}
 use Rattle.std.specs.declared.net.SocketAddr.{SocketAddr}
 use Rattle.bytes.specs.declared.unique.BytesMut.{BytesMut}
 use Rattle.rand_core.specs.Stream.{Stream}
 use Rattle.qc_base.specs.declared.ecn.EcnCodepoint.{EcnCodepoint}
 use Rattle.qc_base.specs.declared.ids.IssuedCid.{IssuedCid}
-use Rattle.qc_cids.specs.Cids.{give_refusal}
+use Rattle.qc_cids.specs.Cids.{bad_cid, give_refusal, may_give}
+use Rattle.qc_cids.specs.declared.connection_ids.ConnectionIds.{ConnectionIds}
+use Rattle.qc_cids.specs.declared.giving.GiveRefusal.TheVariants.{NotAsked}
 use Rattle.qc_receive.specs.Cutting.{rest_of}
 use Rattle.qc_receive.specs.Events.{handed_after, time_of_event}
 use Rattle.qc_receive.specs.declared.events.ConnectionEvent.{ConnectionEvent}
@@ -31,6 +34,27 @@ still_awaited {t} stream c c' now told h = ap (λ (v : View t). is_first_awaited
 pub still_given : {t : Types} {R : Type 0} (stream : R → Stream) (c c' : Held t R) (now : ℕ) (given : List IssuedCid) → ideal stream c' ≡ state_move (Clock now) (ideal stream c) → give_refusal given c.lower.ids ≡ None → give_refusal given c'.lower.ids ≡ None
 unfolding state_move lower_move
 still_given {t} stream c c' now given told h = ap (λ (v : View t). give_refusal given v.lower.ids) told ∙ h
+
+-- ids that may be given are no more than are asked for, and each has the next number and is as long as this end's
+pub few_right : (given : List IssuedCid) (s : ConnectionIds) → give_refusal given s ≡ None → (length given ≤ may_give s) × (bad_cid s.local.cid_len s.local.issued given ≡ None)
+unfolding give_refusal
+few_right given s h = by_test (nat_lt (may_give s) (length given)) refl h
+  where
+    by_test : (b : Bool) → nat_lt (may_give s) (length given) ≡ b → (if b then Some (NotAsked (may_give s) (length given)) else bad_cid s.local.cid_len s.local.issued given) ≡ None → (length given ≤ may_give s) × (bad_cid s.local.cid_len s.local.issued given ≡ None)
+    by_test true e none = absurd cc
+    by_test false e none = (grind (arith, nat_tests, e), none)
+
+-- and such ids may be given
+right_given : (given : List IssuedCid) (s : ConnectionIds) → length given ≤ may_give s → bad_cid s.local.cid_len s.local.issued given ≡ None → give_refusal given s ≡ None
+unfolding give_refusal
+right_given given s few right =
+    let small : nat_lt (may_give s) (length given) ≡ false = grind (arith, nat_tests, few) in
+    ap (λ (b : Bool). if b then Some (NotAsked (may_give s) (length given)) else bad_cid s.local.cid_len s.local.issued given) small ∙ right
+
+-- once the connection was told a time too
+pub right_still : {t : Types} {R : Type 0} (stream : R → Stream) (c c' : Held t R) (now : ℕ) (given : List IssuedCid) → ideal stream c' ≡ state_move (Clock now) (ideal stream c) → length given ≤ may_give c.lower.ids → bad_cid c.lower.ids.local.cid_len c.lower.ids.local.issued given ≡ None →
+    give_refusal given c'.lower.ids ≡ None
+right_still stream c c' now given told few right = still_given stream c c' now given told (right_given given c.lower.ids few right)
 
 -- and whether the connection has ended
 pub still_alive : {t : Types} {R : Type 0} (stream : R → Stream) (c c' : Held t R) (now : ℕ) → ideal stream c' ≡ state_move (Clock now) (ideal stream c) → is_drained c.life.state ≡ false → is_drained c'.life.state ≡ false

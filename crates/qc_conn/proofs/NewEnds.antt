@@ -9,6 +9,7 @@ use Rattle.qc_laws.specs.EndLaws.{Ends}
 use Rattle.qc_laws.specs.EventLaws.{OnlyDoneWaits, ends_in, is_heard}
 use Rattle.qc_laws.specs.UpdateLaws.{AreLast}
 use Rattle.qc_state.specs.First.{first_view, server_view}
+use Rattle.qc_state.specs.declared.tokens.Issuer.{Issuer}
 use Rattle.qc_state.specs.Types.{Types, Meaning}
 use Rattle.qc_state.specs.View.{Held, View, ideal}
 
@@ -19,9 +20,9 @@ module _ {t : Types} where
   client_view_ends m session words fixed remote first_cid token transport congestion time = record { closing = λ low high. absurd (omega (arith, low)); ended = λ d. absurd cc; owed = λ e. absurd cc }
 
   -- a server
-  server_view_ends : (m : Meaning t) (session : t.S) (words : Stream) (fixed : Fixed) (remote : SocketAddr) (remote_cid : List ℕ) (validated : Bool) (transport : TransportValues) (congestion : t.C) (time : ℕ) → Ends (server_view m session words fixed remote remote_cid validated transport congestion time)
+  server_view_ends : (m : Meaning t) (session : t.S) (words : Stream) (fixed : Fixed) (remote : SocketAddr) (remote_cid : List ℕ) (validated : Bool) (issuer : Issuer t.K t.T) (transport : TransportValues) (congestion : t.C) (time : ℕ) → Ends (server_view m session words fixed remote remote_cid validated issuer transport congestion time)
   unfolding server_view
-  server_view_ends m session words fixed remote remote_cid validated transport congestion time = record { closing = λ low high. absurd (omega (arith, low)); ended = λ d. absurd cc; owed = λ e. absurd cc }
+  server_view_ends m session words fixed remote remote_cid validated issuer transport congestion time = record { closing = λ low high. absurd (omega (arith, low)); ended = λ d. absurd cc; owed = λ e. absurd cc }
 
 -- so is one that was made so
 module _ {t : Types} {R : Type 0} where
@@ -30,10 +31,10 @@ module _ {t : Types} {R : Type 0} where
   first_ends stream m session words fixed remote first_cid token transport congestion time v made =
       subst (λ (s : View t). Ends s) (sym made) (client_view_ends m session words fixed remote first_cid token transport congestion time)
 
-  pub server_ends : (stream : R → Stream) (m : Meaning t) (session : t.S) (words : Stream) (fixed : Fixed) (remote : SocketAddr) (remote_cid : List ℕ) (validated : Bool) (transport : TransportValues) (congestion : t.C) (time : ℕ) (v : Held t R) →
-      ideal stream v ≡ server_view m session words fixed remote remote_cid validated transport congestion time → Ends (ideal stream v)
-  server_ends stream m session words fixed remote remote_cid validated transport congestion time v made =
-      subst (λ (s : View t). Ends s) (sym made) (server_view_ends m session words fixed remote remote_cid validated transport congestion time)
+  pub server_ends : (stream : R → Stream) (m : Meaning t) (session : t.S) (words : Stream) (fixed : Fixed) (remote : SocketAddr) (remote_cid : List ℕ) (validated : Bool) (issuer : Issuer t.K t.T) (transport : TransportValues) (congestion : t.C) (time : ℕ) (v : Held t R) →
+      ideal stream v ≡ server_view m session words fixed remote remote_cid validated issuer transport congestion time → Ends (ideal stream v)
+  server_ends stream m session words fixed remote remote_cid validated issuer transport congestion time v made =
+      subst (λ (s : View t). Ends s) (sym made) (server_view_ends m session words fixed remote remote_cid validated issuer transport congestion time)
 
 module _ {t : Types} {R : Type 0} where
   -- in a client that was just made nothing waits to be told
@@ -44,10 +45,10 @@ module _ {t : Types} {R : Type 0} where
       record { lost = λ _. ap (λ (v : View t). v.life.lost) made; connected = λ _. ap (λ (v : View t). v.life.connected) made; drained = λ _. ap (λ (v : View t). v.life.drained) made; notices = ap (λ (v : View t). ends_in v.life.notices) made; heard = ap (λ (v : View t). list_all is_heard v.life.heard) made }
 
   -- nor in such a server
-  pub server_told : (stream : R → Stream) (m : Meaning t) (session : t.S) (words : Stream) (fixed : Fixed) (remote : SocketAddr) (remote_cid : List ℕ) (validated : Bool) (transport : TransportValues) (congestion : t.C) (time : ℕ) (v : Held t R) → ideal stream v ≡ server_view m session words fixed remote remote_cid validated transport congestion time
+  pub server_told : (stream : R → Stream) (m : Meaning t) (session : t.S) (words : Stream) (fixed : Fixed) (remote : SocketAddr) (remote_cid : List ℕ) (validated : Bool) (issuer : Issuer t.K t.T) (transport : TransportValues) (congestion : t.C) (time : ℕ) (v : Held t R) → ideal stream v ≡ server_view m session words fixed remote remote_cid validated issuer transport congestion time
       → OnlyDoneWaits v.life
   unfolding server_view
-  server_told stream m session words fixed remote remote_cid validated transport congestion time v made =
+  server_told stream m session words fixed remote remote_cid validated issuer transport congestion time v made =
       record { lost = λ _. ap (λ (v : View t). v.life.lost) made; connected = λ _. ap (λ (v : View t). v.life.connected) made; drained = λ _. ap (λ (v : View t). v.life.drained) made; notices = ap (λ (v : View t). ends_in v.life.notices) made; heard = ap (λ (v : View t). list_all is_heard v.life.heard) made }
 
 module _ {t : Types} {R : Type 0} where
@@ -58,7 +59,7 @@ module _ {t : Types} {R : Type 0} where
   first_last stream m session words fixed remote first_cid token transport congestion time v made = inr (ap (λ (s : View t). s.keys.«data») made)
 
   -- nor has such a server
-  pub server_last : (stream : R → Stream) (m : Meaning t) (session : t.S) (words : Stream) (fixed : Fixed) (remote : SocketAddr) (remote_cid : List ℕ) (validated : Bool) (transport : TransportValues) (congestion : t.C) (time : ℕ) (v : Held t R) → ideal stream v ≡ server_view m session words fixed remote remote_cid validated transport congestion time
+  pub server_last : (stream : R → Stream) (m : Meaning t) (session : t.S) (words : Stream) (fixed : Fixed) (remote : SocketAddr) (remote_cid : List ℕ) (validated : Bool) (issuer : Issuer t.K t.T) (transport : TransportValues) (congestion : t.C) (time : ℕ) (v : Held t R) → ideal stream v ≡ server_view m session words fixed remote remote_cid validated issuer transport congestion time
       → AreLast (ideal stream v)
   unfolding server_view
-  server_last stream m session words fixed remote remote_cid validated transport congestion time v made = inr (ap (λ (s : View t). s.keys.«data») made)
+  server_last stream m session words fixed remote remote_cid validated issuer transport congestion time v made = inr (ap (λ (s : View t). s.keys.«data») made)

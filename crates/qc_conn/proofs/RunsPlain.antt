@@ -82,7 +82,8 @@ use Rattle.qc_state.specs.Sending.{told_code, told_type, told_application_code, 
 use Rattle.qc_state.specs.Spaces.{space_of, with_space, is_space}
 use Rattle.qc_state.specs.Streams.{calls_of, closed_answer, count_written, finish_answer, is_given_to_streams, read_answer, write_answer}
 use Rattle.qc_state.specs.Timeouts.{timeout_after}
-use Rattle.qc_state.specs.Types.{Types, Meaning}
+use Rattle.qc_state.specs.declared.tokens.Issuer.{Issuer}
+use Rattle.qc_state.specs.Types.{TokenMaker, Types, Meaning}
 use Rattle.qc_state.specs.View.{Held, View, At, ideal}
 use Rattle.qc_state.specs.Polls.{endpoint_events}
 use Rattle.qc_state.specs.First.{first_view, server_view}
@@ -108,8 +109,8 @@ ack_spelled : (time : ℕ) (w : SpaceWaiting) (ack : AckValue) → SaysAck time 
 ack_spelled time w ack says =
     (says.fits, ap (λ (more : List ℕ). frames.Ack (record { largest = ack.largest; delay = ack.delay; additional = more; ecn = ack.ecn })) (sym says.shortest))
 
-module _ {t : Types} where
-  frame_spelled : (time : ℕ) (s : View t) (id : SpaceId) (f : FrameValue) → Waits time s id f → IsSpaceBelowLimit (space_of s.waiting.spaces id) → IsSpelled f × IsSpaceBelowLimit (without (space_of s.waiting.spaces id) f)
+module _ {t : Types} (maker : TokenMaker t) where
+  frame_spelled : (time : ℕ) (s : View t) (id : SpaceId) (f : FrameValue) → Waits maker time s id f → IsSpaceBelowLimit (space_of s.waiting.spaces id) → IsSpelled f × IsSpaceBelowLimit (without (space_of s.waiting.spaces id) f)
   unfolding Waits without Fits range_sealed
   frame_spelled time s id frames.HandshakeDone h b = ((tt, refl), b)
   frame_spelled time s id frames.Ping h b = ((tt, refl), b)
@@ -124,11 +125,12 @@ module _ {t : Types} where
   frame_spelled time s id (frames.MaxStreamData stream limit) h b = ((h.2, refl), b)
   frame_spelled time s id (frames.MaxStreams dir limit) h b = ((h.2, refl), b)
   frame_spelled time s id (frames.Datagram body) h b = ((h.2, refl), b)
+  frame_spelled time s id (frames.NewToken token) h b = ((h.3, refl), b)
   frame_spelled time s id (frames.NewConnectionId new) h b = ((h.2, refl), b)
   frame_spelled time s id (frames.RetireConnectionId sequence) h b = ((retired_fits s.lower.ids sequence h.1, refl), b)
   frame_spelled time s id _ h b = absurd h
 
-  frames_spelled : (time : ℕ) (s : View t) (id : SpaceId) (fs : List FrameValue) → WaitAll time s id fs → IsSpaceBelowLimit (space_of s.waiting.spaces id) →
+  frames_spelled : (time : ℕ) (s : View t) (id : SpaceId) (fs : List FrameValue) → WaitAll maker time s id fs → IsSpaceBelowLimit (space_of s.waiting.spaces id) →
       All IsSpelled fs × IsSpaceBelowLimit (without_all (space_of s.waiting.spaces id) fs)
   unfolding WaitAll without_all
   frames_spelled time s id [] h b = (All-nil IsSpelled, b)
@@ -490,14 +492,14 @@ module _ {t : Types} where
       let w : SpaceWaiting = space_of s.waiting.spaces id in
       subst (ArePlain w) (sym is) (close_plain time w (room - 25) acks (may_acknowledge w.acks) id (room - length (frames_spelling acks)) kept s.life part (room_below room acks small) is_kept h)
 
-  carried_plain : (closing : Bool) (time : ℕ) (s : View t) (form : Form) (room : ℕ) (fs : List FrameValue) → room ≤ 65527 → Carries closing time s form room fs →
+  carried_plain : (maker : TokenMaker t) (closing : Bool) (time : ℕ) (s : View t) (form : Form) (room : ℕ) (fs : List FrameValue) → room ≤ 65527 → Carries maker closing time s form room fs →
       IsSpaceBelowLimit (space_of s.waiting.spaces (number_space form)) → ArePlain (space_of s.waiting.spaces (number_space form)) fs
-  carried_plain closing time s form room fs small (Carries.a_close owed gs n closes is) h =
+  carried_plain maker closing time s form room fs small (Carries.a_close owed gs n closes is) h =
       let w : SpaceWaiting = space_of s.waiting.spaces (number_space form) in
       subst (ArePlain w) (sym is) (padded_plain w gs n (closes_plain time s (number_space form) room gs small closes h))
-  carried_plain closing time s form room fs small (Carries.what_waits free gs n wait is) h =
+  carried_plain maker closing time s form room fs small (Carries.what_waits free gs n wait is) h =
       let w : SpaceWaiting = space_of s.waiting.spaces (number_space form) in
-      subst (ArePlain w) (sym is) (padded_plain w gs n (frames_spelled time s (number_space form) gs wait h))
+      subst (ArePlain w) (sym is) (padded_plain w gs n (frames_spelled maker time s (number_space form) gs wait h))
 
   -- what receiving and sending keep, from one moment to another: the deeds leave nothing out, what waits lies below the limit, and
   -- datagrams go to the same address
@@ -605,8 +607,8 @@ module _ {t : Types} where
       let id : SpaceId = number_space form in
       record {
         deeds = λ b. one_more a.did (deed.Sealed id (next_number a.state.numbers id) (epoch_in a.state.keys form) (is_early form) fs)
-            (early_plain a.state.keys form, (carried_plain may.closing time a.state form may.room fs may.small may.carries (space_below a.state.waiting id b)).0);
-        crypto = λ h. sealed_below a.state.waiting id fs (is_space id a.state.keys.highest) _ h (carried_plain may.closing time a.state form may.room fs may.small may.carries (space_below a.state.waiting id h)).1;
+            (early_plain a.state.keys form, (carried_plain may.token may.closing time a.state form may.room fs may.small may.carries (space_below a.state.waiting id b)).0);
+        crypto = λ h. sealed_below a.state.waiting id fs (is_space id a.state.keys.highest) _ h (carried_plain may.token may.closing time a.state form may.room fs may.small may.carries (space_below a.state.waiting id h)).1;
         path = refl;
         notices = λ p k. k;
       }
@@ -780,10 +782,10 @@ module _ {t : Types} {R : Type 0} where
       record { crypto = (hello, omega arith, omega arith); address = subst IsPlainAddress (sym path) plain; notices = subst (All IsEndpointPlain) (sym none) (All-nil IsEndpointPlain) }
 
   -- a server that was just made
-  pub server_plain : (stream : R → Stream) (m : Meaning t) (session : t.S) (words : Stream) (fixed : Fixed) (remote : SocketAddr) (remote_cid : List ℕ) (validated : Bool) (transport : TransportValues) (congestion : t.C) (time : ℕ) (v : Held t R) → ideal stream v ≡ server_view m session words fixed remote remote_cid validated transport congestion time
+  pub server_plain : (stream : R → Stream) (m : Meaning t) (session : t.S) (words : Stream) (fixed : Fixed) (remote : SocketAddr) (remote_cid : List ℕ) (validated : Bool) (issuer : Issuer t.K t.T) (transport : TransportValues) (congestion : t.C) (time : ℕ) (v : Held t R) → ideal stream v ≡ server_view m session words fixed remote remote_cid validated issuer transport congestion time
       → IsPlainAddress remote → IsPlainStart v.waiting v.paths v.life
   unfolding server_view bytes_written nothing only_path new_path
-  server_plain stream m session words fixed remote remote_cid validated transport congestion time v made plain =
+  server_plain stream m session words fixed remote remote_cid validated issuer transport congestion time v made plain =
       let before : v.waiting.spaces.initial.crypto.written ≡ 0 = ap (λ (v : View t). v.waiting.spaces.initial.crypto.written) made in
       let after : v.waiting.spaces.handshake.crypto.written ≡ 0 = ap (λ (v : View t). v.waiting.spaces.handshake.crypto.written) made in
       let last : v.waiting.spaces.application.crypto.written ≡ 0 = ap (λ (v : View t). v.waiting.spaces.application.crypto.written) made in

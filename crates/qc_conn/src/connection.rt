@@ -29,6 +29,8 @@ ghost use Rattle.qc_conn.specs.Refusal.{bad_call};
 ghost use Rattle.qc_state.specs.Run.{began, time_of, close_after, IsStep};
 ghost use Rattle.qc_state.specs.Timeouts.{timeout_after};
 ghost use Rattle.qc_laws.specs.CidLaws.{HasNewIds};
+ghost use Rattle.qc_laws.specs.FitLaws.{SpaceKeysFit};
+ghost use Rattle.qc_laws.specs.KeyLaws.{SparesKeys};
 ghost use Rattle.qc_laws.specs.UpdateLaws.{AreLast};
 ghost use Rattle.qc_laws.specs.IdLaws.{CarriesUsed};
 ghost use Rattle.qc_laws.specs.PostLaws.{HasNewDatagrams};
@@ -85,7 +87,7 @@ impl<U: Suite> Model for Connection<U> {
     ghost use Rattle.std.specs.Prelude.{string_bytes};
     ghost use Rattle.qc_conn.specs.Seen.{Seen};
 
-    ghost Value = { Seen (record { S = U.Session; H = U.Session.HeaderKey; P = U.Session.PacketKey; D = U.Session.HandshakeData; I = U.Session.PeerIdentity; C = U.Control.Controller }) U.Random };
+    ghost Value = { Seen (record { S = U.Session; H = U.Session.HeaderKey; P = U.Session.PacketKey; D = U.Session.HandshakeData; I = U.Session.PeerIdentity; C = U.Control.Controller; K = U.TokenKey; T = U.Time }) U.Random };
 
     ghost view = { λ c. record { core = c.core; failed = c.core.lower.streams.failed; steps = c.steps; name = string_bytes c.server_name } };
 }
@@ -131,6 +133,8 @@ impl<U: Suite> Connection<U> {
         ensures ids { IfOk result (λ c. CarriesUsed (ideal U.Random.stream c.core)) }
         ensures new_ids { IfOk result (λ c. HasNewIds (ideal U.Random.stream c.core)) }
         ensures space_keys { IfOk result (λ c. HasSpaceKeys ⟦<U as Means>⟧.meaning (ideal U.Random.stream c.core)) }
+        ensures own_keys { IfOk result (λ c. SpaceKeysFit ⟦<U as Means>⟧.meaning U.Session.Session (ideal U.Random.stream c.core)) }
+        ensures spared { IfOk result (λ c. SparesKeys (ideal U.Random.stream c.core)) }
         ensures alive { IfOk result (λ c. c.failed ≡ false) }
         ensures name { IfOk result (λ c. c.name ≡ string_bytes setup.server_name) }
         ensures store { OnOk result (store.new ≡ G.after_take store.old (string_bytes setup.server_name)) }
@@ -157,7 +161,7 @@ impl<U: Suite> Connection<U> {
         now: Instant,
     ) -> Result<Connection<U>, AllocError>
         requires fresh { U.Session.is_fresh setup.session }
-        ensures made { IfOk result (λ c. (ideal U.Random.stream c.core) ≡ server_view ⟦<U as Means>⟧.meaning setup.session (U.Random.stream setup.random) (fixed_of Side.Server setup.version setup.local_cid setup.first_cid setup.cid_lifetime setup.preferred setup.local_ip (allowed_by setup.allow_mtud setup.transport) setup.grease_quic_bit (U.Random.stream setup.random)) setup.remote setup.remote_cid setup.validated (allowed_by setup.allow_mtud setup.transport) (U.Control.built setup.control now (first_size (allowed_by setup.allow_mtud setup.transport) None)) now) }
+        ensures made { IfOk result (λ c. (ideal U.Random.stream c.core) ≡ server_view ⟦<U as Means>⟧.meaning setup.session (U.Random.stream setup.random) (fixed_of Side.Server setup.version setup.local_cid setup.first_cid setup.cid_lifetime setup.preferred setup.local_ip (allowed_by setup.allow_mtud setup.transport) setup.grease_quic_bit (U.Random.stream setup.random)) setup.remote setup.remote_cid setup.validated (record { key = setup.token_key; time = setup.time; sent = setup.sent }) (allowed_by setup.allow_mtud setup.transport) (U.Control.built setup.control now (first_size (allowed_by setup.allow_mtud setup.transport) None)) now) }
         ensures plain { IsPlainAddress setup.remote → IfOk result (λ c. IsPlainStart c.core.waiting c.core.paths c.core.life) }
         ensures told { IfOk result (λ c. OnlyDoneWaits c.core.life) }
         ensures ends { IfOk result (λ c. Ends (ideal U.Random.stream c.core)) }
@@ -171,6 +175,8 @@ impl<U: Suite> Connection<U> {
         ensures ids { IfOk result (λ c. CarriesUsed (ideal U.Random.stream c.core)) }
         ensures new_ids { IfOk result (λ c. HasNewIds (ideal U.Random.stream c.core)) }
         ensures space_keys { IfOk result (λ c. HasSpaceKeys ⟦<U as Means>⟧.meaning (ideal U.Random.stream c.core)) }
+        ensures own_keys { IfOk result (λ c. SpaceKeysFit ⟦<U as Means>⟧.meaning U.Session.Session (ideal U.Random.stream c.core)) }
+        ensures spared { IfOk result (λ c. SparesKeys (ideal U.Random.stream c.core)) }
         ensures alive { IfOk result (λ c. c.failed ≡ false) }
     {
         let core = qc_making::new_server(alloc, setup, now)?;

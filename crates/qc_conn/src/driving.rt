@@ -15,7 +15,8 @@ ghost use Rattle.qc_laws.specs.EndLaws.{Ends};
 ghost use Rattle.qc_conn.specs.Stored.{StoresMore, StoresPart, StoresStep, stored, tokens_in};
 ghost use Rattle.qc_laws.specs.EventLaws.{EachTells, OnlyDoneWaits, TellsOnce, untold_of};
 ghost use Rattle.qc_laws.specs.InitialLaws.{LeavesInitial};
-ghost use Rattle.qc_laws.specs.KeyLaws.{CountsBehind, KeysHold};
+ghost use Rattle.qc_laws.specs.FitLaws.{SpaceKeysFit};
+ghost use Rattle.qc_laws.specs.KeyLaws.{CountsBehind, EachLimitEnds, KeysHold, SparesKeys};
 ghost use Rattle.qc_laws.specs.MarkLaws.{EachTold};
 ghost use Rattle.qc_laws.specs.IdLaws.{FoldsIds, IdsHold};
 ghost use Rattle.qc_laws.specs.PathLaws.{PathHolds, all_from};
@@ -377,13 +378,20 @@ pub fn drive<U: Suite, G: TokenStore>(
     ensures epochs { AreLast (ideal U.Random.stream connection.old.core) → IfOk result (λ trace. KeepsEpochs trace (ideal U.Random.stream connection.old.core) (ideal U.Random.stream connection.new.core)) }
     ensures last { AreLast (ideal U.Random.stream connection.old.core) → OnOk result (AreLast (ideal U.Random.stream connection.new.core)) }
 
+    // While the connection is open, each of its keys that has sealed a packet may seal two more, if they could at the start. A transmit by which
+    // one may seal at most one more ends with the packet that did it, behind which this end closes with AEAD_LIMIT_REACHED; and no transmit
+    // closes, or gives this reason, where each key may seal two more.
+    ensures spared { SparesKeys (ideal U.Random.stream connection.old.core) → OnOk result (SparesKeys (ideal U.Random.stream connection.new.core)) }
+    ensures limits { SparesKeys (ideal U.Random.stream connection.old.core) → IfOk result (λ trace. EachLimitEnds ⟦<U as Means>⟧.meaning 0 (ideal U.Random.stream connection.old.core) inputs.now trace (ideal U.Random.stream connection.new.core)) }
+
     // A Retry is taken only by a client that wasn't answered: at most one, and none once a packet was accepted; nor does a list of versions count
     // then. Each came with the inputs: a Retry whose tag fits leaves its source id and its token, and such a list lacks this end's version.
     // Initial keys are those that the session gives of the destination id of the client's first packets, or of the source id of that Retry, and
-    // Handshake keys those that it gave as it wrote. And VersionMismatch ends the connection only behind a list of versions without this end's.
+    // Handshake keys those that it gave as it wrote; and both are the connection's own session's (`own_keys`). And VersionMismatch ends the connection only behind a list of versions without this end's.
     ensures retry { IfOk result (λ trace. TakesOneRetry (deeds_of trace) (ideal U.Random.stream connection.old.core) (ideal U.Random.stream connection.new.core)) }
     ensures retries { IfOk result (λ trace. AreOfInputs ⟦<U as Means>⟧.meaning inputs.now (deeds_of trace) (ideal U.Random.stream connection.old.core) (ideal U.Random.stream connection.new.core)) }
     ensures space_keys { HasSpaceKeys ⟦<U as Means>⟧.meaning (ideal U.Random.stream connection.old.core) → OnOk result (HasSpaceKeys ⟦<U as Means>⟧.meaning (ideal U.Random.stream connection.new.core)) }
+    ensures own_keys { SpaceKeysFit ⟦<U as Means>⟧.meaning U.Session.Session (ideal U.Random.stream connection.old.core) → OnOk result (SpaceKeysFit ⟦<U as Means>⟧.meaning U.Session.Session (ideal U.Random.stream connection.new.core)) }
     ensures mismatch { IfOk result (λ trace. EachMismatch trace) }
     ensures mismatch_part { IfErr result (λ e. EachMismatch e.done) }
 

@@ -18,6 +18,9 @@ impl<U: Suite> Parts for U {
       session = U.Session.row;
       control = U.Control.row;
       random = U.Random.row;
+      token_key = U.TokenKey.row;
+      token_aead = U.TokenKey.Aead.row;
+      time = U.Time.row;
       header_key = U.Session.HeaderKey.row;
       packet_key = U.Session.PacketKey.row;
       handshake_data = U.Session.HandshakeData.row;
@@ -29,5 +32,8 @@ impl<U: Suite> Parts for U {
       control_calls = U.Control.ControllerFactory;
       controller_calls = U.Control.Controller.Controller;
       random_calls = U.Random.Rng;
+      token_calls = U.TokenKey.HandshakeTokenKey;
+      aead_calls = U.TokenKey.Aead.AeadKey;
+      time_calls = U.Time.TimeSource;
     } };
 }

@@ -2,7 +2,7 @@
 
 ghost use Rattle.std.specs.Prelude.{◌≡◌, ◌<◌, ◌≤◌, ◌++◌, [], true, false, length, OnOk, IfOk, IfSome, None, option_to_list};
 ghost use Rattle.qc_state.specs.declared.input.Input.TheVariants as input;
-ghost use Rattle.qc_cids.specs.Cids.{give_refusal};
+ghost use Rattle.qc_cids.specs.Cids.{bad_cid, give_refusal, may_give};
 ghost use Rattle.qc_conn.specs.Refusal.{bad_call};
 ghost use Rattle.qc_conn.specs.Seen.{Sends};
 ghost use Rattle.qc_laws.specs.StreamsLaws.{is_streams_call};
@@ -10,7 +10,7 @@ ghost use Rattle.qc_receive.specs.Cutting.{rest_of};
 ghost use Rattle.qc_receive.specs.Events.{GivesRight, LeavesBytes, handed_after, time_of_event};
 ghost use Rattle.qc_receive.specs.FirstPacket.{first_reason, size_of};
 ghost use Rattle.qc_state.specs.Life.{is_drained};
-ghost use Rattle.qc_state.specs.Moves.{ReportReady, ReportConnected, ReportAllHeard, ReportStreams, ReportLost, ReportNotices, ReportDrained, state_move};
+ghost use Rattle.qc_state.specs.Moves.{Clock, Issue, ReportReady, ReportConnected, ReportAllHeard, ReportStreams, ReportLost, ReportNotices, ReportDrained, state_move};
 ghost use Rattle.qc_state.specs.Polls.{endpoint_events, waiting_events};
 ghost use Rattle.qc_state.specs.Receiving.{datagram_after, first_packet_after, is_taken};
 ghost use Rattle.qc_state.specs.Setup.{is_first_awaited};
@@ -20,7 +20,7 @@ ghost use Rattle.qc_state.specs.Timers.{has_come};
 ghost use Rattle.qc_state.specs.View.{ideal, held};
 
 use bytes::{Bytes, BytesMut};
-use qc_base::{EcnCodepoint, Instant, VarInt};
+use qc_base::{EcnCodepoint, Instant, IssuedCid, VarInt};
 use qc_core::Core;
 use qc_header::InitialPacket;
 use qc_receive::{ConnectionEvent, datagram, first_datagram, first_packet};
@@ -93,6 +93,31 @@ pub(crate) fn core_first<U: Suite>(
     Ok(taken)
 }
 
+/// The connection is told a time, which leaves it that these ids may be given: no more than are asked for, each with the next number and as
+/// long as this end's.
+fn clock_for<U: Suite>(core: &mut Core<U>, now: Instant, given: &[IssuedCid])
+    requires few { length given.now ≤ may_give core.old.lower.ids }
+    requires right { bad_cid core.old.lower.ids.local.cid_len core.old.lower.ids.local.issued given.now ≡ None }
+    ensures leads { (ideal U.Random.stream core.new) ≡ state_move (Clock now) (ideal U.Random.stream core.old) }
+    ensures given { give_refusal given.now core.new.lower.ids ≡ None }
+{
+    core.clock(now);
+}
+
+/// Ids of this end are given at a time: no more than are asked for, each with the next number and as long as this end's. Want of memory is the only refusal.
+fn core_ids<U: Suite>(
+    core: &mut Core<U>,
+    now: Instant,
+    given: &[IssuedCid],
+) -> Result<(), AllocError>
+    requires few { length given.now ≤ may_give core.old.lower.ids }
+    requires right { bad_cid core.old.lower.ids.local.cid_len core.old.lower.ids.local.issued given.now ≡ None }
+    ensures { OnOk result ((ideal U.Random.stream core.new) ≡ state_move (Issue now given.now) (state_move (Clock now) (ideal U.Random.stream core.old))) }
+{
+    clock_for(core, now, given);
+    core.issue(now, given)
+}
+
 /// An endpoint hands over what came. Answers what was done.
 pub(crate) fn core_event<U: Suite>(
     core: &mut Core<U>,
@@ -122,8 +147,7 @@ pub(crate) fn core_event<U: Suite>(
             Ok(did)
         }
         ConnectionEvent::NewIdentifiers { ids, now } => {
-            core.clock(now);
-            core.issue(now, ids.as_slice())?;
+            core_ids(core, now, ids.as_slice())?;
             Ok(did)
         }
     }

@@ -5,7 +5,7 @@ ghost use Rattle.qc_state.specs.Setup.{is_first_awaited};
 
 use bytes::Bytes;
 use qc_base::{ConnectionId, Instant, Side, VarInt};
-use qc_config::{NoneTokenStore, TokenStore, announced};
+use qc_config::{FixedTime, NoneTokenStore, TokenStore, announced};
 use qc_conn::text::trace_text;
 use qc_conn::{ClientSetup, Connection, drive};
 use qc_core::Core;
@@ -13,7 +13,7 @@ use qc_crypto::{ClientConfig, Session};
 use qc_path::NewRenoConfig;
 use qc_recovery::{IdleTimeout, TransportConfig};
 use qc_state::{Input, Suite};
-use qc_toy::{ToyClient, ToySession, ToySettings, ZeroRandom};
+use qc_toy::{ToyClient, ToySession, ToySettings, ToyTokenKey, ZeroRandom};
 use std::alloc::{AllocError, Global};
 use std::default::Default;
 use std::net::{IpAddr, Ipv4Addr, SocketAddr};
@@ -28,6 +28,10 @@ impl Suite for Toy {
     type Control = NewRenoConfig;
 
     type Random = ZeroRandom;
+
+    type TokenKey = ToyTokenKey;
+
+    type Time = FixedTime;
 }
 
 #[tactic(auto, using(qc_toy::specs::Start::start_fresh, qc_toy::specs::Start::start_side))]

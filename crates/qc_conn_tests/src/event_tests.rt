@@ -8,8 +8,8 @@ ghost use Rattle.qc_state.specs.Setup.{is_first_awaited};
 
 use crate::clients::{Toy, client_at, fresh_client};
 use bytes::BytesMut;
-use qc_base::{ConnectionId, Instant, IssuedCid, ResetToken};
-use qc_config::{NoneTokenStore, announced};
+use qc_base::{ConnectionId, Instant, IssuedCid, ResetToken, SystemTime};
+use qc_config::{FixedTime, NoneTokenStore, announced};
 use qc_conn::{Connection, ConnectionEvent, ServerSetup};
 use qc_crypto::{ServerConfig, Session};
 use qc_header::{InitialPacket, PartialDecode};
@@ -18,7 +18,7 @@ use qc_path::NewRenoConfig;
 use qc_recovery::TransportConfig;
 use qc_state::paths::same_address;
 use qc_state::{ConnectionError, Event, IdList};
-use qc_toy::{ToyServer, ToySession, ToySettings, ZeroRandom};
+use qc_toy::{ToyServer, ToySession, ToySettings, ToyTokenKey, ZeroRandom};
 use std::alloc::Global;
 use std::default::Default;
 use std::net::{IpAddr, Ipv4Addr, SocketAddr};
@@ -159,6 +159,9 @@ fn server(
         version: 1,
         allow_mtud: false,
         remote_cid,
+        token_key: ToyTokenKey::new([0; 16]),
+        time: FixedTime(SystemTime::from_nanos(0)),
+        sent: 0,
         migration: true,
         preferred: false,
         validated: false,

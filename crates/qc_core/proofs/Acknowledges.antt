@@ -108,6 +108,7 @@ module _ {t : Types} {R : Type 0} (m : Meaning t) (stream : R → Stream) where
         waiting = is_waiting i;
         setup = ideal_setup stream w.setup;
         lower = below i;
+        issuer = w.issuer;
       })
       ∙ ap (λ (x : After t.C). state_move (Ack id ack.largest x) (ideal stream v)) is
   settled_parts (Err e) v w time id ack after numbers keys waiting lower x z d before kept same is is_kept is_lower is_streams is_ids was is_datagrams is_keys is_numbers is_waiting = tt
@@ -129,6 +130,7 @@ module _ {t : Types} {R : Type 0} (m : Meaning t) (stream : R → Stream) where
         waiting = is_waiting i;
         setup = ideal_setup stream w.setup;
         lower = below i;
+        issuer = w.issuer;
       })
       ∙ ap (λ (x : FiredAfter t.C). state_move (Fire x) (ideal stream v)) is
   fired_parts (Err e) v w time after waiting lower x z d before kept same is is_kept is_lower is_streams is_ids was is_datagrams is_waiting = tt

@@ -1,11 +1,12 @@
 pub mod Acknowledges
+pub mod Beginnings
+pub mod DatagramCalls
 pub mod EndpointPolls
 pub mod Expiring
+pub mod GivenReasons
 pub mod NumberLengths
 pub mod Skips
 pub mod StreamCalls
-pub mod DatagramCalls
 pub mod TakenAcks
 pub mod TakenPings
-pub mod GivenReasons
 pub mod Unseals

@@ -18,11 +18,13 @@ use Rattle.qc_state.specs.Moves.{Take, state_move, numbers_move, keys_move, life
 use Rattle.qc_state.specs.Setup.{ideal_setup}
 use Rattle.qc_state.specs.Spaces.{space_of}
 use Rattle.qc_state.specs.StreamFrames.{sealed_steps}
+use Rattle.qc_state.specs.Tokens.{behind_tokens}
 use Rattle.qc_state.specs.Types.{Types}
 use Rattle.qc_state.specs.View.{Held, ideal}
 use Rattle.qc_state.specs.Waiting.{waiting_without}
 use Rattle.qc_state.proofs.DatagramSteps.{datagrams_ack}
 use Rattle.qc_state.proofs.IdSteps.{cids_ack}
+use Rattle.qc_state.proofs.Issued.{undrawn, tokens_ack}
 use Rattle.qc_state.proofs.RoomTold.{untold}
 use Rattle.qc_state.proofs.SealedSteps.{sealed_ack}
 use Rattle.qc_streams.specs.Waits.{Step, after}
@@ -46,6 +48,8 @@ module _ {t : Types} {R : Type 0} (stream : R → Stream) where
       let below =
       unstepped (sealed_steps fs) (sealed_datagrams fs) (sealed_cids fs) w.lower (sealed_ack time room (space_of w.waiting.spaces id) fs b part)
       none (cids_ack time room (space_of w.waiting.spaces id) fs b part) in
+      let drawn : stream w.setup.random ≡ behind_tokens fs (stream w.setup.random) =
+      sym (undrawn fs (stream w.setup.random) (tokens_ack time room (space_of w.waiting.spaces id) fs b part)) in
       subst (λ (y : Held t R). ideal stream (record w { waiting = waiting }) ≡ state_move (Take id fs) (ideal stream y)) same
       (λ i. record {
         numbers = w.numbers;
@@ -54,7 +58,8 @@ module _ {t : Types} {R : Type 0} (stream : R → Stream) where
         paths = w.paths;
         timers = w.timers;
         waiting = is i;
-        setup = ideal_setup stream w.setup;
+        setup = record (ideal_setup stream w.setup) { random = drawn i };
         lower = below i;
+        issuer = w.issuer;
       })
   ack_taken (Err e) v w time room id b waiting same part is = tt

@@ -2,7 +2,6 @@
 
 ghost use Rattle.std.specs.Prelude.{◌≡◌, [], ◌+◌, ◌-◌, ◌<◌, ◌≤◌, ◌^◌, ◌==◌, ◌++◌, Err, true, false, length, map, not, option_to_list, slice_get, if◌then◌else◌, OnOk, OnErr, IfOk, ◌∷◌};
 ghost use Rattle.qc_assembler.specs.Assembly.{inserted, part_count};
-ghost use Rattle.qc_core.specs.Sealing.{sealed_drawn};
 ghost use Rattle.qc_state.specs.Acks.{AckPart, is_ack, may_acknowledge};
 ghost use Rattle.qc_state.specs.Life.{ready_event, connected_event, lost_event, first_notice, drained_event};
 ghost use Rattle.qc_state.specs.Lower.{handed_stop, packet_flown, ready_bytes, stream_of};
@@ -12,7 +11,7 @@ ghost use Rattle.qc_frame.specs.FrameSpelling.{elicits, frames_spelling};
 ghost use Rattle.qc_frame.specs.declared.frames.FrameOf.TheVariants as frames;
 ghost use Rattle.std.specs.List.{list_any};
 ghost use Rattle.qc_state.specs.Flight.{flown_packet};
-ghost use Rattle.qc_state.specs.Moves.{Clock, Ask, Take, Forget, Expect, Enter, Fail, Accept, Fix, Hear, Ack, Fire, Arm, Come, Pace, Ready, Release, Skip, Token, Learn, Want, Confirm, Establish, Tell, PeerClosesToo, PeerCloses, Owe, Shut, Raise, Say, Hand, Post, ReportReady, ReportConnected, ReportHeard, ReportAllHeard, ReportStream, ReportStreams, ReportLost, ReportNotice, ReportNotices, ReportDrained, move_to, state_move, tells_congestion};
+ghost use Rattle.qc_state.specs.Moves.{Clock, Ask, Take, Forget, Expect, Enter, Fail, Accept, Fix, Hear, Ack, Fire, Arm, Come, Pace, Ready, Release, Seal, Skip, Token, Learn, Want, Confirm, Establish, Tell, PeerClosesToo, PeerCloses, Owe, Shut, Raise, Say, Hand, Post, ReportReady, ReportConnected, ReportHeard, ReportAllHeard, ReportStream, ReportStreams, ReportLost, ReportNotice, ReportNotices, ReportDrained, move_to, state_move, tells_congestion};
 ghost use Rattle.qc_base.specs.declared.side.SpaceId.TheVariants.{«Data»};
 ghost use Rattle.qc_state.specs.Numbers.{is_skipped};
 ghost use Rattle.qc_state.specs.Offers.{offers_in};
@@ -29,7 +28,9 @@ ghost use Rattle.qc_datagrams.specs.Queue.{first};
 ghost use Rattle.qc_datagrams.specs.Steps.{Sent, Taken};
 ghost use Rattle.qc_state.specs.Datagrams.{AllOldest};
 ghost use Rattle.qc_state.specs.Ids.{AllNext};
-ghost use Rattle.qc_state.specs.View.{at, ideal, held};
+ghost use Rattle.qc_state.specs.Tokens.{AllIssued, made_by};
+ghost use Rattle.qc_state.specs.View.{ideal, held};
+ghost use Rattle.std.specs.Net.Socket.{socket_ip};
 ghost use Rattle.qc_state.specs.Taking.{TakenPart};
 
 use crate::datagrams::{send_datagram, shrink};
@@ -47,6 +48,7 @@ use qc_path::{Arrival, next_bundled_ack_time};
 use qc_state::flight::flown_packet;
 use qc_state::spaces::is_space;
 use qc_state::stream_settling::{fire, settle};
+use qc_state::tokens::asked_tokens;
 use qc_state::unblocking::take_frames;
 use qc_state::waiting::holds_ack;
 use qc_state::{
@@ -66,7 +68,7 @@ fn tells_congestion(mark: Option<EcnCodepoint>) -> bool
     }
 }
 
-#[tactic(auto, unfolding(qc_state::specs::Moves::move_to, qc_state::specs::Moves::state_move, qc_state::specs::Moves::numbers_move, qc_state::specs::Moves::keys_move, qc_state::specs::Moves::life_move, qc_state::specs::Moves::paths_move, qc_state::specs::Moves::timers_move, qc_state::specs::Moves::waiting_move, qc_state::specs::Moves::setup_move, qc_state::specs::Moves::lower_move, qc_state::specs::Moves::deeds_move, qc_state::specs::Offers::offers_in, qc_state::specs::Setup::ideal_setup, qc_state::specs::Setup::idle_limit_now, qc_state::specs::Setup::parameters_known, qc_state::specs::Setup::token_expected, qc_state::specs::Lower::session_wrote, qc_state::specs::Lower::datagrams_stepped, qc_state::specs::Lower::streams_stepped, qc_state::specs::Lower::ids_stepped, qc_state::specs::Life::datagram_heard, qc_datagrams::specs::Steps::after, qc_datagrams::specs::Steps::after_step, qc_cids::specs::Steps::after, qc_state::specs::Paths::path_kept, crate::specs::Sealing::sealed_drawn))]
+#[tactic(auto, unfolding(qc_state::specs::Moves::move_to, qc_state::specs::Moves::state_move, qc_state::specs::Moves::numbers_move, qc_state::specs::Moves::keys_move, qc_state::specs::Moves::life_move, qc_state::specs::Moves::paths_move, qc_state::specs::Moves::timers_move, qc_state::specs::Moves::waiting_move, qc_state::specs::Moves::setup_move, qc_state::specs::Moves::lower_move, qc_state::specs::Moves::deeds_move, qc_state::specs::Offers::offers_in, qc_state::specs::Setup::ideal_setup, qc_state::specs::Setup::idle_limit_now, qc_state::specs::Setup::parameters_known, qc_state::specs::Setup::token_expected, qc_state::specs::Lower::session_wrote, qc_state::specs::Lower::datagrams_stepped, qc_state::specs::Lower::streams_stepped, qc_state::specs::Lower::ids_stepped, qc_state::specs::Life::datagram_heard, qc_datagrams::specs::Steps::after, qc_datagrams::specs::Steps::after_step, qc_cids::specs::Steps::after, qc_state::specs::Paths::path_kept))]
 impl<U: Suite> Core<U> {
     /// The connection is told a time.
     pub fn do_clock(&mut self, now: Instant)
@@ -82,8 +84,8 @@ impl<U: Suite> Core<U> {
         self.waiting.ask_ping(space);
     }
 
-    /// Frames leave what waits, for a packet with so much room for them; where a DATAGRAM among them gives room that one was refused for before,
-    /// that waits to be reported.
+    /// Frames leave what waits, for a packet with so much room for them; a NEW_TOKEN is made for the path's address; where a DATAGRAM among them
+    /// gives room that one was refused for before, that waits to be reported.
     pub fn do_take(
         &mut self,
         alloc: Global,
@@ -95,6 +97,7 @@ impl<U: Suite> Core<U> {
         ensures may { IfOk result (λ frames. AllMay (sealed_steps frames) self.old.lower.streams) }
         ensures oldest { IfOk result (λ frames. AllOldest frames self.old.lower.datagrams) }
         ensures next { IfOk result (λ frames. AllNext frames self.old.lower.ids) }
+        ensures issued { IfOk result (λ frames. AllIssued (made_by ⟦<U as Means>⟧.meaning.token self.old.issuer) (socket_ip self.old.paths.current.remote) frames (space_of self.old.waiting.spaces space) (U.Random.stream self.old.setup.random)) }
         ensures leads { IfOk result (λ frames. (ideal U.Random.stream self.new) ≡ state_move (Take space frames) (ideal U.Random.stream self.old)) }
         ensures full { IfOk result (λ frames. SPARE_ROOM ≤ room - length (frames_spelling frames) → offers_in (ideal U.Random.stream self.new) space ≡ false) }
     {
@@ -102,6 +105,9 @@ impl<U: Suite> Core<U> {
             &mut self.waiting,
             &mut self.lower,
             &mut self.life,
+            &self.issuer,
+            self.paths.current.remote.ip(),
+            &mut self.setup.random,
             alloc,
             now,
             space,
@@ -165,7 +171,7 @@ impl<U: Suite> Core<U> {
         self.lower.fly(space, number, packet)
     }
 
-    /// A packet with these frames is sealed, for which all was drawn before, but for its deed. Want of memory is the only refusal.
+    /// A packet with these frames is sealed, but for its deed. Want of memory is the only refusal.
     fn count_sealed(
         &mut self,
         alloc: Global,
@@ -176,7 +182,7 @@ impl<U: Suite> Core<U> {
         frames: &FrameList,
     ) -> Result<(), AllocError>
         requires { number < 2 ^ 62 }
-        ensures { OnOk result ((ideal U.Random.stream self.new) ≡ (sealed_drawn now form number size frames.now (at (ideal U.Random.stream self.old) [])).state) }
+        ensures { OnOk result ((ideal U.Random.stream self.new) ≡ state_move (Seal now form number size frames.now) (ideal U.Random.stream self.old)) }
     {
         let space = form.space();
         let next = next_bundled_ack_time(
@@ -192,7 +198,7 @@ impl<U: Suite> Core<U> {
         Ok(())
     }
 
-    /// A packet is sealed, for which all was drawn before.
+    /// A packet is sealed.
     pub fn do_seal(
         &mut self,
         alloc: Global,
@@ -204,7 +210,7 @@ impl<U: Suite> Core<U> {
         frames: FrameList,
     ) -> Result<(), AllocError>
         requires { number < 2 ^ 62 }
-        ensures { OnOk result ((held U.Random.stream self.new did.new) ≡ sealed_drawn now form number size frames (held U.Random.stream self.old did.old)) }
+        ensures { OnOk result ((held U.Random.stream self.new did.new) ≡ move_to (Seal now form number size frames) (held U.Random.stream self.old did.old)) }
     {
         let epoch = self.keys.epoch(form);
         match self.count_sealed(alloc, now, form, number, size, &frames) {
@@ -285,6 +291,8 @@ impl<U: Suite> Core<U> {
             &packet,
             signs.mark,
         );
+        self.waiting
+            .ask_tokens(asked_tokens(space, verdict, &self.issuer));
         let side = self.setup.fixed.side;
         accept_on(&mut self.paths, space, verdict, side, entered.0, signs.spin);
         let limit = self.setup.idle_limit();

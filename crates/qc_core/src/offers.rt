@@ -4,19 +4,21 @@ ghost use Rattle.std.specs.Prelude.{◌≡◌, ◌&&◌, ◌||◌, ◌≤◌, no
 ghost use Rattle.qc_base.specs.PacketNumber.{number_len, number_of};
 ghost use Rattle.qc_state.specs.Acks.{is_ack_owed};
 ghost use Rattle.qc_state.specs.Ids.{ids_want};
+ghost use Rattle.qc_state.specs.Keys.{form_in};
 ghost use Rattle.qc_state.specs.Moves.{Begin, state_move};
-ghost use Rattle.qc_state.specs.Offers.{datagram_fits, datagram_waits, oldest_in, packet_again, path_size, probe_begun, probe_sent, short_room, streams_filed, streams_want, waits_in, wants_sending, with_ping};
+ghost use Rattle.qc_state.specs.Offers.{datagram_fits, datagram_waits, oldest_in, packet_again, packet_begun, path_size, probe_begun, probe_sent, short_room, streams_filed, streams_want, tokens_want, waits_in, wants_sending, with_ping};
 ghost use Rattle.qc_state.specs.Sending.{wants_in};
+ghost use Rattle.qc_state.specs.Setup.{ideal_setup, packet_drawn};
 ghost use Rattle.qc_state.specs.Spaces.{space_of};
 ghost use Rattle.qc_state.specs.View.{ideal};
 
 use crate::state::Core;
 use qc_base::SpaceId;
 use qc_cids::ConnectionIds;
-use qc_state::Suite;
 use qc_state::datagrams::first_fits;
 use qc_state::id_settling::frames_lost;
 use qc_state::stream_settling::{file, packet_lost};
+use qc_state::{Suite, Waiting};
 use qc_streams::StreamsState;
 use std::alloc::AllocError;
 
@@ -38,6 +40,16 @@ fn streams_want(streams: &StreamsState, space: SpaceId) -> bool
     match space {
         SpaceId::Initial | SpaceId::Handshake => false,
         SpaceId::Data => streams.has_waiting() || streams.has_control(),
+    }
+}
+
+/// Whether a NEW_TOKEN waits in the space: they go in packets of 1-RTT alone.
+fn tokens_want(waiting: &Waiting, space: SpaceId) -> bool
+    ensures { result ≡ tokens_want space (space_of waiting.now.spaces space) }
+{
+    match space {
+        SpaceId::Initial | SpaceId::Handshake => false,
+        SpaceId::Data => waiting.spaces.application.tokens != 0,
     }
 }
 
@@ -105,7 +117,8 @@ impl<U: Suite> Core<U> {
         ensures { result ≡ wants_sending (ideal U.Random.stream self.now) space }
     {
         self.waiting.wants(space)
-            || (streams_want(&self.lower.streams, space) || ids_want(&self.lower.ids, space))
+            || (streams_want(&self.lower.streams, space)
+                || (ids_want(&self.lower.ids, space) || tokens_want(&self.waiting, space)))
     }
 
     /// Whether a frame waits in the space that elicits an acknowledgement.
@@ -196,13 +209,31 @@ impl<U: Suite> Core<U> {
         file(&mut self.lower.streams, space)
     }
 
-    /// A packet of a space is begun; where it opens a datagram, a probe that is due there is spent. Want of memory is the only
-    /// refusal.
-    #[tactic(auto, unfolding(qc_state::specs::Offers::packet_begun), using(qc_state::proofs::Probed::begun_is))]
-    pub fn do_begin(&mut self, space: SpaceId, opens: bool) -> Result<(), AllocError>
-        ensures { OnOk result ((ideal U.Random.stream self.new) ≡ state_move (Begin space opens) (ideal U.Random.stream self.old)) }
+    /// What waits as a packet of a space is begun: where it opens a datagram, a probe that is due there is spent. Want of memory is the
+    /// only refusal.
+    #[tactic(auto, unfolding(qc_state::specs::Offers::packet_begun))]
+    fn begin_waiting(&mut self, space: SpaceId, opens: bool) -> Result<(), AllocError>
+        ensures { OnOk result ((ideal U.Random.stream self.new) ≡ packet_begun space opens (ideal U.Random.stream self.old)) }
     {
         self.begin(space, opens)?;
         self.file(space)
+    }
+
+    /// The own bits of a packet of a space are drawn.
+    fn draw(&mut self, space: SpaceId)
+        ensures { (ideal U.Random.stream self.new) ≡ record (ideal U.Random.stream self.old) { setup = packet_drawn (ideal_setup U.Random.stream self.old.setup) (form_in self.old.keys space) } }
+    {
+        self.setup.draw_packet(self.keys.form_in(space));
+    }
+
+    /// A packet of a space is begun, and its own bits are drawn; where it opens a datagram, a probe that is due there is spent. Want of
+    /// memory is the only refusal.
+    #[tactic(auto, using(crate::proofs::Beginnings::begun_drawn))]
+    pub fn do_begin(&mut self, space: SpaceId, opens: bool) -> Result<(), AllocError>
+        ensures { OnOk result ((ideal U.Random.stream self.new) ≡ state_move (Begin space opens) (ideal U.Random.stream self.old)) }
+    {
+        self.begin_waiting(space, opens)?;
+        self.draw(space);
+        Ok(())
     }
 }

@@ -3,11 +3,11 @@
 use qc_crypto::Session;
 use qc_path::ControllerFactory;
 use qc_state::{
-    KeyGroup, Life, Lower, Numbers, Paths, Setup, SoundSession, Suite, Timers, Waiting,
+    Issuer, KeyGroup, Life, Lower, Numbers, Paths, Setup, SoundSession, Suite, Timers, Waiting,
 };
 use std::marker::Model;
 
-/// A connection without its mark of want of memory. Contracts see the eight groups of its view.
+/// A connection without its mark of want of memory. Contracts see the nine groups of its view.
 #[derive(Drop)]
 pub struct Core<U: Suite> {
     /// The packet numbers of the three spaces.
@@ -26,12 +26,14 @@ pub struct Core<U: Suite> {
     pub setup: Setup<U::Random>,
     /// The session, and loss recovery.
     pub lower: Lower<SoundSession<U::Session>>,
+    /// On a server what makes the tokens that it sends its client (RFC 9000, 8.1.3); none on a client.
+    pub issuer: Option<Issuer<U::TokenKey, U::Time>>,
 }
 
 impl<U: Suite> Model for Core<U> {
     ghost use Rattle.qc_state.specs.View.{Held};
 
-    ghost Value = { Held (record { S = U.Session; H = U.Session.HeaderKey; P = U.Session.PacketKey; D = U.Session.HandshakeData; I = U.Session.PeerIdentity; C = U.Control.Controller }) U.Random };
+    ghost Value = { Held (record { S = U.Session; H = U.Session.HeaderKey; P = U.Session.PacketKey; D = U.Session.HandshakeData; I = U.Session.PeerIdentity; C = U.Control.Controller; K = U.TokenKey; T = U.Time }) U.Random };
 
     ghost view = { λ c. record {
       numbers = c.numbers;
@@ -42,5 +44,6 @@ impl<U: Suite> Model for Core<U> {
       waiting = c.waiting;
       setup = c.setup;
       lower = c.lower;
+      issuer = c.issuer;
     } };
 }

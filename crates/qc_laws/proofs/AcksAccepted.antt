@@ -34,6 +34,8 @@ use Rattle.qc_state.specs.Sending.{packet_size, transmit_after, MayTransmit, Cho
 use Rattle.qc_state.specs.Spaces.{space_of, with_space, is_space}
 use Rattle.qc_state.specs.Receiving.{datagram_after}
 use Rattle.qc_state.specs.Timeouts.{timeout_after}
+use Rattle.qc_state.specs.Tokens.{asked_tokens}
+use Rattle.qc_laws.proofs.TokensAsked.{asked_acks}
 use Rattle.qc_state.specs.Types.{Types, Meaning}
 use Rattle.qc_state.specs.View.{View, At}
 use Rattle.qc_state.specs.Waiting.{done_asked, ping_asked, waiting_without, close_begun, packet_told, lost_in, packets_lost, acked_in, packets_acked, fired_in, probes_added, probe_spent, frames_again, all_again, came_in, packet_came, crypto_written, nothing_left, space_left, released, ack_released, bundle_next, bytes_again, hello_again}
@@ -233,7 +235,8 @@ module _ {t : Types} where
   knows_move id Discard a h k = silent_knows id Discard a refl (λ n m. m)
   knows_move id (Accept time space n e g v) a h k =
       deed_knows id (Accept time space n e g v) (did.Piece (Some space) (Some n) v) a refl tt
-      (came_kept id space a.state.waiting (arrived n (numbers.came_in a.state.numbers space)) (arrival_of time n e g) g.mark v k)
+      (λ j m. came_kept id space a.state.waiting (arrived n (numbers.came_in a.state.numbers space)) (arrival_of time n e g) g.mark v k j
+      (subst (λ (p : PendingValues). Member j p.ranges) (asked_acks id (asked_tokens space v a.state.issuer) (packet_came a.state.waiting space (arrived n (numbers.came_in a.state.numbers space)) (arrival_of time n e g) g.mark)) m))
   knows_move id (Fix cid) a h k = silent_knows id (Fix cid) a refl (λ n m. m)
   knows_move id (Hear bytes) a h k = silent_knows id (Hear bytes) a refl (λ n m. m)
   knows_move id (Ack space n r) a h k = silent_knows id (Ack space n r) a refl (settled_kept id space a.state.waiting r.acked r.lost)
@@ -346,7 +349,7 @@ module _ {t : Types} where
       let space : SpaceId = number_space form in
       let b : At t = move_to (Take space fs) a in
       let said : AcksOnly (IsKept space (waiting_without a.state.waiting space fs)) fs =
-      only_more (IsKept space a.state.waiting) (IsKept space (waiting_without a.state.waiting space fs)) (taken_kept space a.state.waiting fs) fs (carries_known may.closing time a.state form may.room fs may.carries) in
+      only_more (IsKept space a.state.waiting) (IsKept space (waiting_without a.state.waiting space fs)) (taken_kept space a.state.waiting fs) fs (carries_known may.token may.closing time a.state form may.room fs may.carries) in
       knows_next id a b _ (knows_move id (Take space fs) a may.takes tt)
       (knows_move id (Seal time form (next_number a.state.numbers (number_space form)) (packet_size a.state form fs) fs) b (refl, may.closes, may.alive, may.keyed) said)
 

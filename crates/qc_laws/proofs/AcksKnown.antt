@@ -27,7 +27,7 @@ use Rattle.qc_state.specs.Headline.{KnownBehind, AcksOnly, SealsKnown, AcksKnown
 use Rattle.qc_state.specs.Life.{is_closed}
 use Rattle.qc_state.specs.Sending.{Carries, Closes, application_close, close_frame, closing_frame, told_close}
 use Rattle.qc_state.specs.Spaces.{space_of}
-use Rattle.qc_state.specs.Types.{Types}
+use Rattle.qc_state.specs.Types.{TokenMaker, Types}
 use Rattle.qc_state.specs.View.{View}
 use Rattle.qc_state.specs.Waiting.{without, without_all, again, all_again, lost_in, confirmed, all_confirmed, acked_in}
 use Rattle.qc_state.specs.Allowed.{Waits, WaitAll}
@@ -246,14 +246,22 @@ padded_known : (K : ℕ → Type 0) (n : ℕ) (fs gs : List FrameValue) → fs �
 padded_known K n fs gs is known = subst (AcksOnly K) (sym is) (only_append K gs (replicate n frames.Padding) known (padding_only K n))
 
 module _ {t : Types} where
+  -- an ACK and a close behind it acknowledge what is kept in their space
+  closes_known : (time : ℕ) (s : View t) (id : SpaceId) (room : ℕ) (gs : List FrameValue) → Closes time s id room gs → AcksOnly (IsKept id s.waiting) gs
+  closes_known time s id room gs (Closes.closing acks part kept fits is) =
+      let w : SpaceWaiting = space_of s.waiting.spaces id in
+      let K : ℕ → Type 0 = λ k. Member k w.acks.ranges in
+      subst (AcksOnly K) (sym is) (only_append K acks (closing_frame id kept s.life ∷ []) (part_known time w _ acks _ part) (close_only K (is_closed s.life.state) id kept s.life.close))
+
+module _ {t : Types} (maker : TokenMaker t) where
   -- a frame that waits in a space acknowledges what is kept there
-  first_known : (time : ℕ) (s : View t) (id : SpaceId) (f : FrameValue) (fs : List FrameValue) → Waits time s id f → AcksOnly (IsKept id s.waiting) fs → AcksOnly (IsKept id s.waiting) (f ∷ fs)
+  first_known : (time : ℕ) (s : View t) (id : SpaceId) (f : FrameValue) (fs : List FrameValue) → Waits maker time s id f → AcksOnly (IsKept id s.waiting) fs → AcksOnly (IsKept id s.waiting) (f ∷ fs)
   unfolding Waits
   first_known time s id (frames.Ack ack) fs wait behind = (says_known time (space_of s.waiting.spaces id) ack wait.1, behind)
   first_known time s id _ fs wait behind = behind
 
   -- so do the frames that wait
-  wait_known : (time : ℕ) (s : View t) (id : SpaceId) (fs : List FrameValue) → WaitAll time s id fs → AcksOnly (IsKept id s.waiting) fs
+  wait_known : (time : ℕ) (s : View t) (id : SpaceId) (fs : List FrameValue) → WaitAll maker time s id fs → AcksOnly (IsKept id s.waiting) fs
   unfolding WaitAll
   wait_known time s id [] h = tt
   wait_known time s id (f ∷ fs) h =
@@ -262,15 +270,8 @@ module _ {t : Types} where
       ap (λ (w : SpaceWaiting). w.acks.ranges) (taken_space id f s) ∙ without_keeps (space_of s.waiting.spaces id) f in
       first_known time s id f fs h.0 (only_more (IsKept id v.waiting) (IsKept id s.waiting) (λ n. subst (Member n) same) fs (wait_known time v id fs h.1))
 
-  -- an ACK and a close behind it acknowledge what is kept in their space
-  closes_known : (time : ℕ) (s : View t) (id : SpaceId) (room : ℕ) (gs : List FrameValue) → Closes time s id room gs → AcksOnly (IsKept id s.waiting) gs
-  closes_known time s id room gs (Closes.closing acks part kept fits is) =
-      let w : SpaceWaiting = space_of s.waiting.spaces id in
-      let K : ℕ → Type 0 = λ k. Member k w.acks.ranges in
-      subst (AcksOnly K) (sym is) (only_append K acks (closing_frame id kept s.life ∷ []) (part_known time w _ acks _ part) (close_only K (is_closed s.life.state) id kept s.life.close))
-
   -- what a packet carries acknowledges what is kept in its space
-  pub carries_known : (closing : Bool) (time : ℕ) (s : View t) (form : Form) (room : ℕ) (fs : List FrameValue) → Carries closing time s form room fs → AcksOnly (IsKept (number_space form) s.waiting) fs
+  pub carries_known : (closing : Bool) (time : ℕ) (s : View t) (form : Form) (room : ℕ) (fs : List FrameValue) → Carries maker closing time s form room fs → AcksOnly (IsKept (number_space form) s.waiting) fs
   carries_known closing time s form room fs (Carries.a_close owed gs n closes is) =
       padded_known (IsKept (number_space form) s.waiting) n fs gs is (closes_known time s (number_space form) room gs closes)
   carries_known closing time s form room fs (Carries.what_waits free gs n wait is) =

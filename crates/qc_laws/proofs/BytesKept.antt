@@ -294,7 +294,7 @@ module _ {t : Types} where
           let n : ℕ = next_number s.numbers (number_space form) in
           let packet : SentPacket = flown_packet time (packet_size s form fs) fs in
           let taken : Lower t.S = frames_sealed fs s.lower in
-          let own : AreOwn fs = carried_own may.closing time s form may.room fs may.carries (apart_there (number_space form) other) in
+          let own : AreOwn fs = carried_own may.token may.closing time s form may.room fs may.carries (apart_there (number_space form) other) in
           ap (λ (es : List Entry). is_held id o es) (apart_lower s.waiting.close_owed taken (number_space form) n packet «Data» other) ∙ ap (λ (xs : List Step). flown_on id o xs (is_held id o (flight_of s))) (sym own.streams) ∙ h
 
   flies_hold : (m : Meaning t) → Holds Flies m

@@ -46,6 +46,7 @@ module _ (I : IssuedCid → Type 0) where
   told_kept_of : (n : ℕ) (f : FrameValue) → IsTold n f → AreTold n (kept_of f)
   told_kept_of n frames.HandshakeDone h = (tt, tt)
   told_kept_of n (frames.Crypto offset body) h = (tt, tt)
+  told_kept_of n (frames.NewToken token) h = (tt, tt)
   told_kept_of n (frames.Ack ack) h = (tt, tt)
   told_kept_of n (frames.ResetStream id code size) h = (tt, tt)
   told_kept_of n (frames.StopSending id code) h = (tt, tt)

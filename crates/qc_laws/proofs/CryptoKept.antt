@@ -52,6 +52,8 @@ use Rattle.qc_laws.specs.RecoveryLaws as laws
 use Rattle.qc_state.specs.Run.{IsStep, Run, began, called, input_after, reported, time_of}
 use Rattle.qc_state.specs.Run as run
 use Rattle.qc_state.specs.Sending.{packet_size}
+use Rattle.qc_state.specs.Tokens.{asked_tokens}
+use Rattle.qc_laws.proofs.TokensAsked.{asked_crypto}
 use Rattle.qc_state.specs.Types.{Types, Meaning}
 use Rattle.qc_state.specs.View.{View, At}
 use Rattle.qc_laws.proofs.EndsHold.{began_ends, low_open, step_ends}
@@ -110,7 +112,8 @@ module _ {t : Types} where
   unfolding waiting_move ping_asked packet_came came_in done_asked ack_released close_begun
   still_crypto (Ask space) s id h = put_crypto id space s.waiting.spaces (record (space_of s.waiting.spaces space) { ping = true }) refl
   still_crypto (Accept time space n e g v) s id h =
-      came_crypto g.mark (with_space s.waiting.spaces space (came_in (is_space space «Data») (arrived n (numbers.came_in s.numbers space)) (arrival_of time n e g) g.mark (space_of s.waiting.spaces space))) id
+      asked_crypto id (asked_tokens space v s.issuer) (packet_came s.waiting space (arrived n (numbers.came_in s.numbers space)) (arrival_of time n e g) g.mark)
+      ∙ came_crypto g.mark (with_space s.waiting.spaces space (came_in (is_space space «Data») (arrived n (numbers.came_in s.numbers space)) (arrival_of time n e g) g.mark (space_of s.waiting.spaces space))) id
       ∙ put_crypto id space s.waiting.spaces (came_in (is_space space «Data») (arrived n (numbers.came_in s.numbers space)) (arrival_of time n e g) g.mark (space_of s.waiting.spaces space)) refl
   still_crypto Confirm s id h = put_crypto id «Data» s.waiting.spaces (record (space_of s.waiting.spaces «Data») { done = true }) refl
   still_crypto Release s id h = put_crypto id «Data» s.waiting.spaces (released (space_of s.waiting.spaces «Data»)) refl

@@ -29,15 +29,17 @@ use Rattle.qc_state.specs.Run.{IsStep, Run, began, called, reported, step_after,
 use Rattle.qc_state.specs.Sending.{packet_size}
 use Rattle.qc_state.specs.Setup.{packet_drawn, parameters_known, token_expected, word_drawn, retry_taken}
 use Rattle.qc_state.specs.Spaces.{is_space, space_of, with_space}
+use Rattle.qc_state.specs.Tokens.{asked_tokens}
 use Rattle.qc_state.specs.Types.{Types, Meaning}
 use Rattle.qc_state.specs.View.{View, At}
-use Rattle.qc_state.specs.Waiting.{ack_released, acked_in, all_again, bundle_next, came_in, close_begun, crypto_more, crypto_written, done_asked, fired_in, frames_again, lost_in, marks_begun, nothing_left, packet_came, packet_told, packets_acked, packets_lost, ping_asked, probe_spent, probes_added, released, space_left, waiting_without, without_all, bytes_again, hello_again}
+use Rattle.qc_state.specs.Waiting.{ack_released, acked_in, all_again, bundle_next, came_in, close_begun, crypto_more, crypto_written, done_asked, fired_in, frames_again, lost_in, marks_begun, nothing_left, packet_came, packet_told, packets_acked, packets_lost, ping_asked, probe_spent, probes_added, released, space_left, tokens_asked, waiting_without, without_all, bytes_again, hello_again}
 use Rattle.qc_state.proofs.Probed.{begun_holds}
 use Rattle.qc_state.proofs.Transmitted.{IsSealable}
 use Rattle.qc_laws.specs.SealLaws.{KeepsFields}
 use Rattle.qc_laws.proofs.CryptoBuffers.{all_again_more, all_stays, lost_in_more}
 use Rattle.qc_laws.proofs.CryptoPlaces.{acked_crypto, bundled_spaces, came_crypto}
 use Rattle.qc_laws.proofs.KnownMoves.{IsKnownMove, known_input}
+use Rattle.qc_laws.proofs.TokensAsked.{asked_crypto}
 
 -- ---- CRYPTO streams in their places
 
@@ -118,7 +120,9 @@ module _ {t : Types} where
   move_short m (Renew time cid token keys) s id k h = put_short id Initial s.waiting.spaces (bytes_again (space_of s.waiting.spaces Initial)) (λ x. x) h
   move_short m (Accept time space n e g v) s id k h =
       let w : SpaceWaiting = came_in (is_space space «Data») (arrived n (numbers.came_in s.numbers space)) (arrival_of time n e g) g.mark (space_of s.waiting.spaces space) in
-      as_long (space_of (with_space s.waiting.spaces space w) id) (space_of (marks_begun g.mark (with_space s.waiting.spaces space w)) id) (ap (λ (b : Buffer). b.written) (came_crypto g.mark (with_space s.waiting.spaces space w) id)) (put_short id space s.waiting.spaces w (λ x. x) h)
+      let came : Waiting = packet_came s.waiting space (arrived n (numbers.came_in s.numbers space)) (arrival_of time n e g) g.mark in
+      as_long (space_of came.spaces id) (space_of (tokens_asked (asked_tokens space v s.issuer) came).spaces id) (ap (λ (b : Buffer). b.written) (asked_crypto id (asked_tokens space v s.issuer) came))
+      (as_long (space_of (with_space s.waiting.spaces space w) id) (space_of (marks_begun g.mark (with_space s.waiting.spaces space w)) id) (ap (λ (b : Buffer). b.written) (came_crypto g.mark (with_space s.waiting.spaces space w) id)) (put_short id space s.waiting.spaces w (λ x. x) h))
   move_short m (Write bytes keys session) s id k h =
       put_short id s.keys.highest s.waiting.spaces (record (space_of s.waiting.spaces s.keys.highest) { crypto = crypto_more (space_of s.waiting.spaces s.keys.highest).crypto bytes }) (more_short (space_of s.waiting.spaces s.keys.highest) bytes) h
   move_short m Confirm s id k h = put_short id «Data» s.waiting.spaces (record (space_of s.waiting.spaces «Data») { done = true }) (λ x. x) h

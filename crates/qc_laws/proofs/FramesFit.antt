@@ -19,7 +19,7 @@ use Rattle.qc_state.specs.Life.{is_closed}
 use Rattle.qc_state.specs.Moves.{Take, state_move}
 use Rattle.qc_state.specs.Sending.{Carries, Closes, IsKeptReason, application_close, close_frame, closing_frame, told_application_code, told_close, told_code, told_type}
 use Rattle.qc_state.specs.Spaces.{space_of}
-use Rattle.qc_state.specs.Types.{Types}
+use Rattle.qc_state.specs.Types.{TokenMaker, Types}
 use Rattle.qc_state.specs.View.{View}
 use Rattle.qc_state.specs.Waiting.{without_all}
 use Rattle.qc_state.proofs.IdsTaken.{retired_fits}
@@ -118,7 +118,22 @@ module _ {t : Types} where
   abbrev HasRoom : View t → SpaceId → Type 0
   HasRoom s id = (space_of s.waiting.spaces id).crypto.written < 2 ^ 62
 
-  waits_fits : (time : ℕ) (s : View t) (id : SpaceId) (f : FrameValue) → HasRoom s id → Waits time s id f → Fits f
+  -- a frame that is taken leaves the stream as long
+  taken_room : (s : View t) (id : SpaceId) (f : FrameValue) → HasRoom s id → HasRoom (state_move (Take id (f ∷ [])) s) id
+  unfolding without_all
+  taken_room s id f small =
+      subst (λ (n : ℕ). n < 2 ^ 62) (sym (ap (λ (w : SpaceWaiting). w.crypto.written) (taken_space id f s) ∙ (all_stays (space_of s.waiting.spaces id) (f ∷ [])).written)) small
+
+  -- ---- a packet that holds a close
+
+  closes_fit : (time : ℕ) (s : View t) (id : SpaceId) (room : ℕ) (fs : List FrameValue) → room < 2 ^ 62 → Closes time s id room fs → AllFit fs
+  closes_fit time s id room fs small (Closes.closing acks part kept reason is) =
+      subst (λ (xs : List FrameValue). AllFit xs) (sym is)
+      (fit_both acks (closing_frame id kept s.life ∷ []) (ack_fits time (space_of s.waiting.spaces id) _ acks _ part)
+      (closing_fits id kept (room - length (frames_spelling acks)) (is_closed s.life.state) s.life.close (omega (arith, small)) reason, tt))
+
+module _ {t : Types} (maker : TokenMaker t) where
+  waits_fits : (time : ℕ) (s : View t) (id : SpaceId) (f : FrameValue) → HasRoom s id → Waits maker time s id f → Fits f
   unfolding Waits Fits
   waits_fits time s id frames.HandshakeDone small w = tt
   waits_fits time s id frames.Ping small w = tt
@@ -127,7 +142,7 @@ module _ {t : Types} where
   waits_fits time s id frames.Padding small w = tt
   waits_fits time s id (frames.ResetStream stream code size) small w = w.2
   waits_fits time s id (frames.StopSending stream code) small w = w.2
-  waits_fits time s id (frames.NewToken token) small w = absurd w
+  waits_fits time s id (frames.NewToken token) small w = w.3
   waits_fits time s id (frames.Stream stream offset fin body) small w = w.2
   waits_fits time s id (frames.MaxData limit) small w = w.2
   waits_fits time s id (frames.MaxStreamData stream limit) small w = w.2
@@ -143,27 +158,13 @@ module _ {t : Types} where
   waits_fits time s id (frames.ApplicationClose code reason) small w = absurd w
   waits_fits time s id (frames.Datagram body) small w = w.2
 
-  -- a frame that is taken leaves the stream as long
-  taken_room : (s : View t) (id : SpaceId) (f : FrameValue) → HasRoom s id → HasRoom (state_move (Take id (f ∷ [])) s) id
-  unfolding without_all
-  taken_room s id f small =
-      subst (λ (n : ℕ). n < 2 ^ 62) (sym (ap (λ (w : SpaceWaiting). w.crypto.written) (taken_space id f s) ∙ (all_stays (space_of s.waiting.spaces id) (f ∷ [])).written)) small
-
-  wait_fit : (time : ℕ) (s : View t) (id : SpaceId) (fs : List FrameValue) → HasRoom s id → WaitAll time s id fs → AllFit fs
+  wait_fit : (time : ℕ) (s : View t) (id : SpaceId) (fs : List FrameValue) → HasRoom s id → WaitAll maker time s id fs → AllFit fs
   unfolding WaitAll
   wait_fit time s id [] small w = tt
   wait_fit time s id (f ∷ fs) small w = (waits_fits time s id f small w.0, wait_fit time (state_move (Take id (f ∷ [])) s) id fs (taken_room s id f small) w.1)
 
-  -- ---- a packet
-
-  closes_fit : (time : ℕ) (s : View t) (id : SpaceId) (room : ℕ) (fs : List FrameValue) → room < 2 ^ 62 → Closes time s id room fs → AllFit fs
-  closes_fit time s id room fs small (Closes.closing acks part kept reason is) =
-      subst (λ (xs : List FrameValue). AllFit xs) (sym is)
-      (fit_both acks (closing_frame id kept s.life ∷ []) (ack_fits time (space_of s.waiting.spaces id) _ acks _ part)
-      (closing_fits id kept (room - length (frames_spelling acks)) (is_closed s.life.state) s.life.close (omega (arith, small)) reason, tt))
-
-  -- whatever it carries
+  -- whatever a packet carries
   pub carried_fit : (closing : Bool) (time : ℕ) (s : View t) (form : Form) (room : ℕ) (fs : List FrameValue) → room < 2 ^ 62 → (space_of s.waiting.spaces (number_space form)).crypto.written < 2 ^ 62 →
-      Carries closing time s form room fs → AllFit fs
+      Carries maker closing time s form room fs → AllFit fs
   carried_fit closing time s form room fs small long (Carries.a_close owed gs n closes is) = padded_fit n fs gs is (closes_fit time s (number_space form) room gs small closes)
   carried_fit closing time s form room fs small long (Carries.what_waits free gs n wait is) = padded_fit n fs gs is (wait_fit time s (number_space form) gs long wait)

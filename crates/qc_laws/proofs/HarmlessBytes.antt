@@ -75,9 +75,10 @@ module _ {t : Types} where
     pub waiting : s'.waiting ≡ s.waiting
     pub setup : s'.setup ≡ s.setup
     pub lower : s'.lower ≡ s.lower
+    pub issuer : s'.issuer ≡ s.issuer
 
   same_here : (s : View t) → Same s s
-  same_here s = record { numbers = refl; keys = refl; life = refl; paths = refl; ranged = λ r. r; more = λ r. omega arith; timers = refl; still = λ r f. refl; waiting = refl; setup = refl; lower = refl }
+  same_here s = record { numbers = refl; keys = refl; life = refl; paths = refl; ranged = λ r. r; more = λ r. omega arith; timers = refl; still = λ r f. refl; waiting = refl; setup = refl; lower = refl; issuer = refl }
 
   same_next : (r s u : View t) → Same r s → Same s u → Same r u
   same_next r s u g h = record {
@@ -92,15 +93,16 @@ module _ {t : Types} where
     waiting = h.waiting ∙ g.waiting;
     setup = h.setup ∙ g.setup;
     lower = h.lower ∙ g.lower;
+    issuer = h.issuer ∙ g.issuer;
   }
 
   -- the same where what waited to be reported was reported
   counts_here : (s : View t) → OnlyCounts s s
-  counts_here s = record { numbers = refl; keys = refl; life = refl; paths = refl; ranged = λ r. r; more = λ r. omega arith; timers = refl; still = λ r f. refl; waiting = refl; setup = refl; lower = refl }
+  counts_here s = record { numbers = refl; keys = refl; life = refl; paths = refl; ranged = λ r. r; more = λ r. omega arith; timers = refl; still = λ r f. refl; waiting = refl; setup = refl; lower = refl; issuer = refl }
 
   pub same_counts : (s s' : View t) → Same s s' → OnlyCounts s s'
   unfolding reported state_move numbers_move keys_move life_move paths_move timers_move waiting_move setup_move lower_move
-  same_counts s s' h = record { numbers = h.numbers; keys = h.keys; life = ap life_reported h.life; paths = h.paths; ranged = h.ranged; more = h.more; timers = h.timers; still = h.still; waiting = h.waiting; setup = h.setup; lower = ap (λ (l : Lower t.S). events_told l) h.lower }
+  same_counts s s' h = record { numbers = h.numbers; keys = h.keys; life = ap life_reported h.life; paths = h.paths; ranged = h.ranged; more = h.more; timers = h.timers; still = h.still; waiting = h.waiting; setup = h.setup; lower = ap (λ (l : Lower t.S). events_told l) h.lower; issuer = h.issuer }
 
   counts_next : (r s u : View t) → OnlyCounts r s → OnlyCounts s u → OnlyCounts r u
   counts_next r s u g h = record {
@@ -115,6 +117,7 @@ module _ {t : Types} where
     waiting = h.waiting ∙ g.waiting;
     setup = h.setup ∙ g.setup;
     lower = h.lower ∙ g.lower;
+    issuer = h.issuer ∙ g.issuer;
   }
 
   -- from one moment to another, deeds were added
@@ -190,15 +193,15 @@ module _ {t : Types} where
 
   same_fail : (s : View t) → Same s (state_move Fail s)
   unfolding state_move numbers_move keys_move life_move paths_move timers_move waiting_move setup_move lower_move failure_counted
-  same_fail s = record { numbers = refl; keys = refl; life = refl; paths = refl; ranged = λ r. r; more = λ r. omega arith; timers = refl; still = λ r f. refl; waiting = refl; setup = refl; lower = refl }
+  same_fail s = record { numbers = refl; keys = refl; life = refl; paths = refl; ranged = λ r. r; more = λ r. omega arith; timers = refl; still = λ r f. refl; waiting = refl; setup = refl; lower = refl; issuer = refl }
 
   same_hear : (n : ℕ) (s : View t) → Same s (state_move (Hear n) s)
   unfolding state_move numbers_move keys_move life_move paths_move timers_move waiting_move setup_move lower_move path_received
-  same_hear n s = record { numbers = refl; keys = refl; life = refl; paths = refl; ranged = λ r. omega arith; more = λ r. omega arith; timers = refl; still = λ r f. refl; waiting = refl; setup = refl; lower = refl }
+  same_hear n s = record { numbers = refl; keys = refl; life = refl; paths = refl; ranged = λ r. omega arith; more = λ r. omega arith; timers = refl; still = λ r f. refl; waiting = refl; setup = refl; lower = refl; issuer = refl }
 
   same_clock : (time : ℕ) (s : View t) → Same s (state_move (Clock time) s)
   unfolding state_move numbers_move keys_move life_move paths_move timers_move waiting_move setup_move lower_move clock_set
-  same_clock time s = record { numbers = refl; keys = refl; life = refl; paths = refl; ranged = λ r. r; more = λ r. omega arith; timers = refl; still = λ r f. refl; waiting = refl; setup = refl; lower = refl }
+  same_clock time s = record { numbers = refl; keys = refl; life = refl; paths = refl; ranged = λ r. r; more = λ r. omega arith; timers = refl; still = λ r f. refl; waiting = refl; setup = refl; lower = refl; issuer = refl }
 
   -- ---- a packet that opened
 
@@ -377,6 +380,7 @@ module _ {t : Types} where
     waiting = h.waiting;
     setup = h.setup;
     lower = h.lower;
+    issuer = h.issuer;
   }
   armed_same time s a false blocked h = h
 
@@ -545,6 +549,7 @@ module _ {t : Types} where
         waiting = h.waiting ∙ same.waiting;
         setup = h.setup ∙ same.setup;
         lower = ap (λ (l : Lower t.S). events_told l) h.lower ∙ told_again b.state.lower ∙ ap (λ (l : Lower t.S). events_told l) same.lower;
+        issuer = h.issuer ∙ same.issuer;
       }
 
   -- a run, one step after the other

@@ -378,7 +378,7 @@ module _ {t : Types} where
 
   pub begun_deeds : (id : SpaceId) (opens : Bool) (a : At t) → (begun_after id opens a).did ≡ a.did
   unfolding begun_after skipped_after move_to deeds_move
-  begun_deeds id opens a = begun_deeds_by (move_to (Begin id opens) a) (is_skipped (move_to (Begin id opens) a).state.numbers id)
+  begun_deeds id opens a = begun_deeds_by a (is_skipped a.state.numbers id)
 
   pub flown_deeds : (m : Meaning t) (time size : ℕ) (a : At t) (b : Bool) → (flown_after m time size b a).did ≡ a.did
   unfolding armed_with spent_after move_to deeds_move
@@ -427,7 +427,7 @@ module _ {t : Types} where
   given_ended why b true h = ap is_drained (given_open b.state.life why (is_none b.state.life.reason)) ∙ h
   given_ended why b false h = h
 
-  killed_ended : (why : ConnectionError) (a : At t) → Ended (move_to (Say Killed) (killed_after why a))
+  pub killed_ended : (why : ConnectionError) (a : At t) → Ended (move_to (Say Killed) (killed_after why a))
   unfolding killed_after given_after move_to state_move life_move life_raised
   killed_ended why a = let b : At t = move_to (Raise state.Drained) a in given_ended why b (is_none b.state.life.reason) refl
 
@@ -457,7 +457,7 @@ module _ {t : Types} where
   ending_quiet m time e b a may = holds_ending (Quiet ⊥) (quiet_here ⊥) (quiet_next ⊥) (λ x r c h. quiet_move ⊥ x (sending_quiet x r) c) (λ at fs c h. data_quiet at _ _ fs c) m time e b a may
 
   -- the batch notes a Handshake packet
-  packet_shakes : (m : Meaning t) (time : ℕ) (p : Sent) (g : Going t) → (packet_after m time p g).batch.shook ≡ (g.batch.shook || is_space (number_space p.form) Handshake)
+  pub packet_shakes : (m : Meaning t) (time : ℕ) (p : Sent) (g : Going t) → (packet_after m time p g).batch.shook ≡ (g.batch.shook || is_space (number_space p.form) Handshake)
   unfolding packet_after begun_batch batch_grown
   packet_shakes m time p g = ap (λ (b : Bool). b || is_space (number_space p.form) Handshake) (opened_shook g.batch p.opens (not ((space_of g.now.state.waiting.spaces (number_space p.form)).probes == 0)))
 
@@ -468,7 +468,7 @@ module _ {t : Types} where
   shook_before m time p g h = packet_shakes m time p g ∙ or_first g.batch.shook (is_space (number_space p.form) Handshake) h
 
   -- behind a Handshake packet no Initial packet has its turn
-  shook_behind : (m : Meaning t) (time : ℕ) (p : Sent) (g : Going t) → is_in_order g.batch.space (number_space p.form) ≡ true → (g.batch.shook ≡ true → is_in_order g.batch.space Initial ≡ false) →
+  pub shook_behind : (m : Meaning t) (time : ℕ) (p : Sent) (g : Going t) → is_in_order g.batch.space (number_space p.form) ≡ true → (g.batch.shook ≡ true → is_in_order g.batch.space Initial ≡ false) →
       (packet_after m time p g).batch.shook ≡ true → is_in_order (packet_after m time p g).batch.space Initial ≡ false
   unfolding packet_after batch_grown
   shook_behind m time p g order before shook =

@@ -19,6 +19,7 @@ module _ {t : Types} where
     waiting = h.waiting;
     setup = h.setup;
     lower = h.lower;
+    issuer = h.issuer;
     forward = h.forward;
     deeds = h.deeds;
     allowed = h.allowed;

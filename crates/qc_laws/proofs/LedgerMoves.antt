@@ -52,6 +52,7 @@ use Rattle.qc_laws.proofs.AcksKnown.{KnownSince}
 use Rattle.qc_laws.proofs.PieceLaws.{opened_tells}
 use Rattle.qc_laws.proofs.Receives.{IsOpened, IsPieceOf, datagram_holds}
 use Rattle.qc_laws.proofs.StreamSteps.{last_of, same_since}
+use Rattle.qc_laws.proofs.UpdatesAbove.{Above, opened_above}
 use Rattle.qc_laws.proofs.Ledgers.{Behind, Inside, IsFor, IsStill, Shows, accepted_same, ack_inside, bound_last, bound_more, forget_still, given_append, goes_here, goes_next, goes_one, in_last, inside_here, inside_next, move_inside, none_known, read_inside, still_last, still_shows, told_append, told_still, unpieced_known, unread_accepts, unread_unaccepted, renew_still}
 
 -- a move that is no update of this end's
@@ -185,7 +186,10 @@ module _ {t : Types} (m : Meaning t) (Comes : Piece → Type 0) where
         subst (λ (n : ℕ). opened_in m.mask m.opening (option_map (λ (k : OneRttKeys t.H t.P). k.header.remote) e.keys) None (option_map (λ (k : OneRttKeys t.H t.P). k.ring) e.keys) n p ≡ Opened o.source o.token o.spin (Some which) o.number o.payload) (sym s.rx)
             (subst (λ (keys : Option (OneRttKeys t.H t.P)). opened_in m.mask m.opening (option_map (λ (k : OneRttKeys t.H t.P). k.header.remote) keys) None (option_map (λ (k : OneRttKeys t.H t.P). k.ring) keys) (received_number a.state.numbers «Data») p ≡ Opened o.source o.token o.spin (Some which) o.number o.payload) (sym s.keys) opens),
       ) in
-      (step, (comes, opened, refl, refl, answered), shows_so, refl)
+      let above : which ≡ Next → e.rx < o.number =
+      λ next. subst (λ (n : ℕ). n < o.number) (sym s.rx) (subst (Above (received_number a.state.numbers «Data»)) opens
+      (opened_above m.mask m.opening (option_map (λ (k : OneRttKeys t.H t.P). k.ring) a.state.keys.«data») (received_number a.state.numbers «Data») p (option_map (λ (k : OneRttKeys t.H t.P). k.header.remote) a.state.keys.«data»)) (ap (λ (w : Which). Some w) next)) in
+      (step, (comes, opened, refl, refl, answered, above), shows_so, refl)
     where
       answered : which ≡ Next → waits_for_answer e.keys ≡ false
       answered next =

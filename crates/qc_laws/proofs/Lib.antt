@@ -15,6 +15,7 @@ pub mod Clocks
 pub mod DatagramLaws
 pub mod EventsTold
 pub mod EventsAsked
+pub mod FailuresEnd
 pub mod FaultsClose
 pub mod Gifts
 pub mod HarmlessBytes
@@ -25,6 +26,10 @@ pub mod IdsHold
 pub mod Inputs
 pub mod Joins
 pub mod KeysCount
+pub mod KeyUses
+pub mod KeyLimits
+pub mod LimitReasons
+pub mod LimitsEnd
 pub mod KeysHold
 pub mod MarksKept
 pub mod MarksTold
@@ -99,9 +104,12 @@ pub mod KeyCounts
 pub mod KeyEpochs
 pub mod KeysFold
 pub mod Ledgers
+pub mod UpdatesAbove
 pub mod LedgerMoves
 pub mod Mirrors
 pub mod KeysFit
 pub mod RunsFit
+pub mod SpacesFit
 pub mod StopCodes
 pub mod Reasons
+pub mod TokensAsked

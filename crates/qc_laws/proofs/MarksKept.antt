@@ -16,7 +16,7 @@ use Rattle.qc_state.specs.Life.{is_closed}
 use Rattle.qc_laws.specs.MarkLaws.{AcksTell}
 use Rattle.qc_state.specs.Sending.{Carries, Closes, application_close, close_frame, closing_frame, told_close}
 use Rattle.qc_state.specs.Spaces.{space_of}
-use Rattle.qc_state.specs.Types.{Types}
+use Rattle.qc_state.specs.Types.{TokenMaker, Types}
 use Rattle.qc_state.specs.View.{View}
 use Rattle.qc_state.specs.Waiting.{without, without_all, again, all_again, lost_in, confirmed, all_confirmed, acked_in}
 use Rattle.qc_state.specs.Allowed.{Waits, WaitAll}
@@ -102,22 +102,6 @@ padded_tells : (counts : Option EcnCounts) (n : ℕ) (fs gs : List FrameValue) �
 padded_tells counts n fs gs is told = subst (AcksTell counts) (sym is) (tell_append counts gs (replicate n frames.Padding) told (padding_tells counts n))
 
 module _ {t : Types} where
-  -- a frame that waits in a space tells its counts
-  first_tells : (time : ℕ) (s : View t) (id : SpaceId) (f : FrameValue) (fs : List FrameValue) → Waits time s id f → AcksTell (told_counts (space_of s.waiting.spaces id).marks) fs →
-      AcksTell (told_counts (space_of s.waiting.spaces id).marks) (f ∷ fs)
-  unfolding Waits
-  first_tells time s id (frames.Ack ack) fs wait behind = (wait.1.ecn, behind)
-  first_tells time s id _ fs wait behind = behind
-
-  -- so do the frames that wait
-  wait_tells : (time : ℕ) (s : View t) (id : SpaceId) (fs : List FrameValue) → WaitAll time s id fs → AcksTell (told_counts (space_of s.waiting.spaces id).marks) fs
-  unfolding WaitAll
-  wait_tells time s id [] h = tt
-  wait_tells time s id (f ∷ fs) h =
-      let v : View t = state_move (Take id (f ∷ [])) s in
-      let same : (space_of v.waiting.spaces id).marks ≡ (space_of s.waiting.spaces id).marks = ap (λ (w : SpaceWaiting). w.marks) (taken_space id f s) ∙ without_keeps (space_of s.waiting.spaces id) f in
-      first_tells time s id f fs h.0 (subst (λ (counts : Option EcnCounts). AcksTell (told_counts counts) fs) same (wait_tells time v id fs h.1))
-
   -- an ACK and a close behind it tell the counts of their space
   closes_tell : (time : ℕ) (s : View t) (id : SpaceId) (room : ℕ) (gs : List FrameValue) → Closes time s id room gs → AcksTell (told_counts (space_of s.waiting.spaces id).marks) gs
   closes_tell time s id room gs (Closes.closing acks part kept fits is) =
@@ -125,8 +109,25 @@ module _ {t : Types} where
       let counts : Option EcnCounts = told_counts w.marks in
       subst (AcksTell counts) (sym is) (tell_append counts acks (closing_frame id kept s.life ∷ []) (part_tells time w _ acks _ part) (close_tells counts (is_closed s.life.state) id kept s.life.close))
 
+module _ {t : Types} (maker : TokenMaker t) where
+  -- a frame that waits in a space tells its counts
+  first_tells : (time : ℕ) (s : View t) (id : SpaceId) (f : FrameValue) (fs : List FrameValue) → Waits maker time s id f → AcksTell (told_counts (space_of s.waiting.spaces id).marks) fs →
+      AcksTell (told_counts (space_of s.waiting.spaces id).marks) (f ∷ fs)
+  unfolding Waits
+  first_tells time s id (frames.Ack ack) fs wait behind = (wait.1.ecn, behind)
+  first_tells time s id _ fs wait behind = behind
+
+  -- so do the frames that wait
+  wait_tells : (time : ℕ) (s : View t) (id : SpaceId) (fs : List FrameValue) → WaitAll maker time s id fs → AcksTell (told_counts (space_of s.waiting.spaces id).marks) fs
+  unfolding WaitAll
+  wait_tells time s id [] h = tt
+  wait_tells time s id (f ∷ fs) h =
+      let v : View t = state_move (Take id (f ∷ [])) s in
+      let same : (space_of v.waiting.spaces id).marks ≡ (space_of s.waiting.spaces id).marks = ap (λ (w : SpaceWaiting). w.marks) (taken_space id f s) ∙ without_keeps (space_of s.waiting.spaces id) f in
+      first_tells time s id f fs h.0 (subst (λ (counts : Option EcnCounts). AcksTell (told_counts counts) fs) same (wait_tells time v id fs h.1))
+
   -- what a packet carries tells the counts of its space
-  pub carries_tells : (closing : Bool) (time : ℕ) (s : View t) (form : Form) (room : ℕ) (fs : List FrameValue) → Carries closing time s form room fs → AcksTell (told_counts (space_of s.waiting.spaces (number_space form)).marks) fs
+  pub carries_tells : (closing : Bool) (time : ℕ) (s : View t) (form : Form) (room : ℕ) (fs : List FrameValue) → Carries maker closing time s form room fs → AcksTell (told_counts (space_of s.waiting.spaces (number_space form)).marks) fs
   carries_tells closing time s form room fs (Carries.a_close owed gs n closes is) =
       padded_tells (told_counts (space_of s.waiting.spaces (number_space form)).marks) n fs gs is (closes_tell time s (number_space form) room gs closes)
   carries_tells closing time s form room fs (Carries.what_waits free gs n wait is) =

@@ -9,7 +9,7 @@ use Rattle.qc_base.specs.declared.side.SpaceId.TheVariants.{Initial, Handshake, 
 use Rattle.qc_frame.specs.Frame.{FrameValue}
 use Rattle.qc_frame.specs.declared.frames.EcnCounts.{EcnCounts}
 use Rattle.qc_flight.specs.Packets.{Entry}
-use Rattle.qc_path.specs.Arrived.{Window}
+use Rattle.qc_path.specs.Arrived.{Window, arrived}
 use Rattle.qc_path.specs.declared.pending_acks.Arrival.{Arrival}
 use Rattle.qc_recovery.specs.declared.calls.Fired.{Fired}
 use Rattle.qc_recovery.specs.declared.calls.Fired.TheVariants as fired
@@ -30,7 +30,8 @@ use Rattle.qc_state.specs.Acks.{is_ack, told_counts}
 use Rattle.qc_state.specs.Forms.{number_space}
 use Rattle.qc_state.specs.Life.{is_open, is_over}
 use Rattle.qc_laws.specs.MarkLaws.{AcksTell, DeedsTell, EachTold, SealsTold, StepsTell, Tally, carried_mark, nothing_tallied, tally_accepted, tally_behind, tally_judged, tally_of, tally_since, tally_told}
-use Rattle.qc_state.specs.Moves.{Probe, Move, Clock, Ask, Take, Seal, Forget, Enter, Expect, Fail, Accept, Fix, Hear, Ack, Fire, Arm, Pace, Release, Begin, Skip, Come, Read, Write, Ready, Token, Learn, Want, Confirm, Establish, Tell, PeerClosesToo, PeerCloses, Owe, Shut, Raise, Give, Say, Finish, ReportReady, ReportConnected, ReportLost, ReportNotice, ReportNotices, ReportDrained, accepts, enters, state_move, move_to, deeds_move, waiting_move, numbers_move, keys_move, life_move, MayMove, IsTold, told, Hand, Call, ReportStream, ReportStreams, told_to_streams, Post, ReportHeard, ReportAllHeard, Insert, Switch, Retire, Issue, Outlive, Hold, Spend, Discard, Unseal, Update, Renew}
+use Rattle.qc_state.specs.Moves.{Probe, Move, Clock, Ask, Take, Seal, Forget, Enter, Expect, Fail, Accept, Fix, Hear, Ack, Fire, Arm, Pace, Release, Begin, Skip, Come, Read, Write, Ready, Token, Learn, Want, Confirm, Establish, Tell, PeerClosesToo, PeerCloses, Owe, Shut, Raise, Give, Say, Finish, ReportReady, ReportConnected, ReportLost, ReportNotice, ReportNotices, ReportDrained, accepts, arrival_of, enters, state_move, move_to, deeds_move, waiting_move, numbers_move, keys_move, life_move, MayMove, IsTold, told, Hand, Call, ReportStream, ReportStreams, told_to_streams, Post, ReportHeard, ReportAllHeard, Insert, Switch, Retire, Issue, Outlive, Hold, Spend, Discard, Unseal, Update, Renew}
+use Rattle.qc_state.specs.Numbers as numbers
 use Rattle.qc_state.specs.Numbers.{next_number}
 use Rattle.qc_state.specs.Offers.{packet_begun}
 use Rattle.qc_state.proofs.Probed.{begun_holds}
@@ -38,6 +39,8 @@ use Rattle.qc_state.specs.Receiving.{datagram_after}
 use Rattle.qc_state.specs.Run.{time_of, began, close_after, input_after, called, reported, step_after, IsAllowed, IsStep, Run, Ran, datagram_limit}
 use Rattle.qc_state.specs.Sending.{Choice, MayTransmit, packet_size, transmit_after}
 use Rattle.qc_state.specs.Spaces.{space_of, with_space, is_space}
+use Rattle.qc_state.specs.Tokens.{asked_tokens}
+use Rattle.qc_laws.proofs.TokensAsked.{asked_marks}
 use Rattle.qc_state.specs.Types.{Types, Meaning}
 use Rattle.qc_state.specs.View.{View, At}
 use Rattle.qc_state.specs.Waiting.{done_asked, ping_asked, waiting_without, close_begun, counts_begun, mark_counted, packet_told, packets_lost, lost_in, packets_acked, acked_in, fired_in, probes_added, probe_spent, frames_again, all_again, came_in, packet_came, crypto_written, nothing_left, space_left, released, ack_released, bundle_next, bytes_again, hello_again}
@@ -290,10 +293,10 @@ module _ {t : Types} where
 
   -- a packet is accepted
   accept_counted : (id : SpaceId) (mark : Option EcnCodepoint) (x : Move t) (space : SpaceId) (n : ℕ) (v : Verdict) (seen : Window) (arrival : Arrival) (came : Option EcnCodepoint) (a : At t) → deeds_move x a.state ≡ did.Piece (Some space) (Some n) v ∷ []
-      → waiting_move x a.state ≡ packet_came a.state.waiting space seen arrival came → accepts v ≡ true → came ≡ mark → Counted id mark a (move_to x a)
+      → MarksOf id (waiting_move x a.state) ≡ MarksOf id (packet_came a.state.waiting space seen arrival came) → accepts v ≡ true → came ≡ mark → Counted id mark a (move_to x a)
   accept_counted id mark x space n v seen arrival came a one leaves takes is =
       deed_counted id mark x (did.Piece (Some space) (Some n) v) a one (λ y h. tt)
-      (λ y h. subst (λ (w : Waiting). Fits (tally_judged id mark (Some space) v y) (MarksOf id w)) (sym leaves)
+      (λ y h. subst (λ (c : Option EcnCounts). Fits (tally_judged id mark (Some space) v y) c) (sym leaves)
       (subst (λ (z : Tally). Fits z (MarksOf id (packet_came a.state.waiting space seen arrival came))) (sym (judged_one id space mark v y takes))
       (subst (λ (m : Option EcnCodepoint). Fits (tally_accepted (is_space id space) m y) (MarksOf id (packet_came a.state.waiting space seen arrival came))) is (came_fits id space a.state.waiting seen arrival came y h))))
 
@@ -325,7 +328,10 @@ module _ {t : Types} where
   counted_move id mark (Unseal time n which fresh session) a h k = silent_counted id mark (Unseal time n which fresh session) a refl refl
   counted_move id mark (Update fresh session) a h k = silent_counted id mark (Update fresh session) a refl refl
   counted_move id mark Discard a h k = silent_counted id mark Discard a refl refl
-  counted_move id mark (Accept time space n e g v) a h k = accept_counted id mark (Accept time space n e g v) space n v _ _ g.mark a refl refl k.0 k.1
+  counted_move id mark (Accept time space n e g v) a h k =
+      let seen : Window = arrived n (numbers.came_in a.state.numbers space) in
+      accept_counted id mark (Accept time space n e g v) space n v seen (arrival_of time n e g) g.mark a refl
+      (asked_marks id (asked_tokens space v a.state.issuer) (packet_came a.state.waiting space seen (arrival_of time n e g) g.mark)) k.0 k.1
   counted_move id mark (Fix cid) a h k = silent_counted id mark (Fix cid) a refl refl
   counted_move id mark (Hear bytes) a h k = silent_counted id mark (Hear bytes) a refl refl
   counted_move id mark (Ack space n after) a h k = silent_counted id mark (Ack space n after) a refl (lost_marks id space (packets_acked a.state.waiting space after.acked) after.lost ∙ acked_marks id space a.state.waiting after.acked)
@@ -417,7 +423,7 @@ module _ {t : Types} where
       let space : SpaceId = number_space form in
       let b : At t = move_to (Take space fs) a in
       let said : AcksTell (told_counts (MarksOf space (waiting_without a.state.waiting space fs))) fs =
-      subst (λ (x : Option EcnCounts). AcksTell (told_counts x) fs) (sym (taken_marks space space a.state.waiting fs)) (carries_tells may.closing time a.state form may.room fs may.carries) in
+      subst (λ (x : Option EcnCounts). AcksTell (told_counts x) fs) (sym (taken_marks space space a.state.waiting fs)) (carries_tells may.token may.closing time a.state form may.room fs may.carries) in
       counted_next id None a b _ (counted_move id None (Take space fs) a may.takes tt)
       (counted_move id None (Seal time form (next_number a.state.numbers (number_space form)) (packet_size a.state form fs) fs) b (refl, may.closes, may.alive, may.keyed) said)
 

@@ -229,7 +229,7 @@ module _ {t : Types} (m : Meaning t) (Comes : Piece → Type 0) where
 -- steps that may be made where some pieces come may be made where others do
 module _ {t : Types} (m : Meaning t) (Comes Others : Piece → Type 0) (more : (p : Piece) → Comes p → Others p) where
   may_more : (x : LedgerStep t) (e : Ledger t) → MayLedger m Comes x e → MayLedger m Others x e
-  may_more (Opens p number payload which fresh session) e h = (more p h.0, h.1, h.2, h.3, h.4)
+  may_more (Opens p number payload which fresh session) e h = (more p h.0, h.1, h.2, h.3, h.4, h.5)
   may_more (Calls session) e h = h
   may_more (Takes keys session) e h = h
   may_more (Passes next) e h = h

@@ -25,13 +25,12 @@ use Rattle.qc_state.specs.declared.keys.OneRttKeys.{OneRttKeys}
 use Rattle.qc_state.specs.declared.keys.SpaceKeys.{SpaceKeys}
 use Rattle.qc_state.specs.declared.setup.Fixed.{Fixed}
 use Rattle.qc_state.specs.declared.transmit.Batch.{Batch}
-use Rattle.qc_state.specs.Draws.{bit}
 use Rattle.qc_state.specs.Forms.{is_early, is_one_rtt, number_space}
 use Rattle.qc_state.specs.Keys.{epoch_in, epoch_with, has_keys_for, header_key, packet_key, phase_now, phase_with}
 use Rattle.qc_state.specs.Numbers.{acked_number, next_number}
 use Rattle.qc_state.specs.Batches.{batch_grown, batch_opened}
 use Rattle.qc_state.specs.Sending.{Carries, Going, MayFollow, Sent, begun_after, begun_batch, begun_view, fills_up, flips_now, header_in, is_key_nearly_used_up, least_size, packet_after, packet_bytes, packet_size, padding_in, room_in, room_of, sealed_with, spin_now}
-use Rattle.qc_state.specs.Setup.{behind_spin, takes_grease}
+use Rattle.qc_state.specs.Setup.{takes_grease}
 use Rattle.qc_state.specs.Spaces.{space_of}
 use Rattle.qc_state.specs.Types.{Types, Meaning}
 use Rattle.qc_state.specs.View.{View}
@@ -157,9 +156,9 @@ module _ {t : Types} where
   short_form v form.Early h = cc
   short_form v form.OneRtt h = refl
 
-  flips_taken : (v : View t) (f : Form) → flips_now v f ≡ true → takes_grease v.setup.peer ≡ true
+  flips_taken : (v : View t) → flips_now v ≡ true → takes_grease v.setup.peer ≡ true
   unfolding flips_now
-  flips_taken v f h = first_of_both (takes_grease v.setup.peer) (bit (behind_spin v.setup f)) h
+  flips_taken v h = first_of_both (takes_grease v.setup.peer) v.setup.drawn.flip h
 
   spins_so : (v : View t) → v.setup.fixed.spins ≡ true → spin_now v ≡ v.paths.spin
   unfolding spin_now
@@ -167,13 +166,13 @@ module _ {t : Types} where
 
   -- such a packet can be told apart
   pub can_arrive : (s v : View t) (f : Form) (fs : List FrameValue) (rest : List ℕ) → SealsBy s v → HasFields s → packet_size v f fs ≤ 16383 → least_size v f ≤ packet_size v f fs → (is_one_rtt f ≡ true → rest ≡ []) →
-      CanArrive (length s.paths.current.remote_cid) (s.setup.fixed.version ∷ []) (takes_grease s.setup.peer) (flips_now v f) (header_in v f) (frames_spelling fs) rest
+      CanArrive (length s.paths.current.remote_cid) (s.setup.fixed.version ∷ []) (takes_grease s.setup.peer) (flips_now v) (header_in v f) (frames_spelling fs) rest
   unfolding packet_size least_size min_size_of
   can_arrive s v f fs rest alike fields small enough last =
       let same : header_in v f ≡ header_of s f (spin_now v) (epoch_in v.keys f) (next_number v.numbers (number_space f)) = header_is s v f alike in
       let short : header_len (header_in v f) ≤ 16383 = omega (arith, small) in
       record {
-        greased = λ e. sym (ap takes_grease alike.peer) ∙ flips_taken v f e;
+        greased = λ e. sym (ap takes_grease alike.peer) ∙ flips_taken v e;
         readable = subst (λ (h : Header). IsReadable (length s.paths.current.remote_cid) (s.setup.fixed.version ∷ []) (takes_grease s.setup.peer) h) (sym same)
             (readable s f (spin_now v) (takes_grease s.setup.peer) (epoch_in v.keys f) (next_number v.numbers (number_space f)) fields (subst (λ (h : Header). header_len h ≤ 16383) same short));
         numbered = numbered v f;
@@ -186,13 +185,13 @@ module _ {t : Types} where
 
   -- as it is sealed under these keys
   abbrev pub as_sealed : Meaning t → t.H → t.P → View t → Form → List FrameValue → SealedAs t.P
-  as_sealed m h k v f fs = record { mask = m.mask h; sealer = k; flip = flips_now v f; header = header_in v f; number = next_number v.numbers (number_space f); plain = frames_spelling fs }
+  as_sealed m h k v f fs = record { mask = m.mask h; sealer = k; flip = flips_now v; header = header_in v f; number = next_number v.numbers (number_space f); plain = frames_spelling fs }
 
   pub bytes_are : (m : Meaning t) (v : View t) (f : Form) (fs : List FrameValue) (k : HasKeys v.keys f) → packet_bytes m v f fs ≡ bytes_as m.seal (as_sealed m k.mask k.sealer v f fs)
   unfolding packet_bytes
   bytes_are m v f fs k =
-      ap (λ (o : Option t.H). sealed_with m o (packet_key v.keys f) (flips_now v f) (header_in v f) (next_number v.numbers (number_space f)) (frames_spelling fs)) k.is_mask
-      ∙ ap (λ (o : Option t.P). sealed_with m (Some k.mask) o (flips_now v f) (header_in v f) (next_number v.numbers (number_space f)) (frames_spelling fs)) k.is_sealer
+      ap (λ (o : Option t.H). sealed_with m o (packet_key v.keys f) (flips_now v) (header_in v f) (next_number v.numbers (number_space f)) (frames_spelling fs)) k.is_mask
+      ∙ ap (λ (o : Option t.P). sealed_with m (Some k.mask) o (flips_now v) (header_in v f) (next_number v.numbers (number_space f)) (frames_spelling fs)) k.is_sealer
 
   pub is_sealed : (m : Meaning t) (s v : View t) (f : Form) (fs : List FrameValue) (k : HasKeys v.keys f) → SealsBy s v → (HasFields s → AllFit fs) →
       IsSealedAs m s (number_space f) (next_number v.numbers (number_space f)) (epoch_in v.keys f) (is_early f) fs (as_sealed m k.mask k.sealer v f fs)
@@ -206,7 +205,7 @@ module _ {t : Types} where
     spin = spin_now v;
     header = header_is s v f alike;
     spins = λ e. spins_so v (ap (λ (x : Fixed). x.spins) alike.fixed ∙ e) ∙ alike.spin;
-    flips = λ e. sym (ap takes_grease alike.peer) ∙ flips_taken v f e;
+    flips = λ e. sym (ap takes_grease alike.peer) ∙ flips_taken v e;
     payload = refl;
     fits = fit;
   }
@@ -235,7 +234,7 @@ module _ {t : Types} where
   sized_by : (m : Meaning t) (v : View t) (f : Form) (fs : List FrameValue) (h : t.H) (k : t.P) → ((key : t.P) (number : ℕ) (header plain : List ℕ) → length (m.seal key number header plain) ≡ length plain + 16) →
       length (bytes_as m.seal (as_sealed m h k v f fs)) ≡ packet_size v f fs
   unfolding packet_size
-  sized_by m v f fs h k size = sealed_size (m.mask h) (m.seal k) (flips_now v f) (header_in v f) (next_number v.numbers (number_space f)) (frames_spelling fs) (λ header. size k (next_number v.numbers (number_space f)) header (frames_spelling fs))
+  sized_by m v f fs h k size = sealed_size (m.mask h) (m.seal k) (flips_now v) (header_in v f) (next_number v.numbers (number_space f)) (frames_spelling fs) (λ header. size k (next_number v.numbers (number_space f)) header (frames_spelling fs))
 
   pub seals_packet : (m : Meaning t) → ((key : t.P) (number : ℕ) (header plain : List ℕ) → length (m.seal key number header plain) ≡ length plain + 16) → (time : ℕ) (s : View t) (p : Sent) (g : Going t) →
       SealsBy s g.now.state → MayFollow m time g.now.state g.batch p → SealsPacket m s time p g
@@ -248,13 +247,13 @@ module _ {t : Types} where
       let here : SealsBy s v = by_alike s g.now.state v alike (begun_alike id p.opens g.now) in
       let keyed : has_keys_for v.keys p.form ≡ true = subst (λ (k : KeyGroup t.H t.P). has_keys_for k p.form ≡ true) (sym (begun_keys id p.opens g.now)) (begins_keyed m time g.now.state g.batch p.form p.opens may.begins) in
       let k : HasKeys v.keys p.form = keys_there v.keys p.form keyed in
-      let carries : Carries g.batch.closing time v p.form (room_in b v p.form) p.frames = subst (λ (x : View t). Carries g.batch.closing time x p.form (room_in b x p.form) p.frames) (sym same) may.carries in
+      let carries : Carries m.token g.batch.closing time v p.form (room_in b v p.form) p.frames = subst (λ (x : View t). Carries m.token g.batch.closing time x p.form (room_in b x p.form) p.frames) (sym same) may.carries in
       let fits : b.filled + packet_size v p.form p.frames ≤ b.capacity = subst (λ (x : View t). b.filled + packet_size x p.form p.frames ≤ b.capacity) (sym same) may.fits in
       let enough : least_size v p.form ≤ packet_size v p.form p.frames = subst (λ (x : View t). least_size x p.form ≤ packet_size x p.form p.frames) (sym same) may.padded.enough in
       record {
         packet = as_sealed m k.mask k.sealer v p.form p.frames;
         is = is_sealed m s v p.form p.frames k here
-            (λ fields. carried_fit g.batch.closing time v p.form (room_in b v p.form) p.frames (room_small b v p.form may.sized) (subst (λ (n : ℕ). n < 2 ^ 62) (sym (here.written id)) (fields.crypto id)) carries);
+            (λ fields. carried_fit m.token g.batch.closing time v p.form (room_in b v p.form) p.frames (room_small b v p.form may.sized) (subst (λ (n : ℕ). n < 2 ^ 62) (sym (here.written id)) (fields.crypto id)) carries);
         out = ap (λ (bytes : List ℕ). g.out ++ bytes) (bytes_are m v p.form p.frames k);
         size = sized_by m v p.form p.frames k.mask k.sealer size;
         can = λ fields small rest last. can_arrive s v p.form p.frames rest here fields (omega (arith, fits, small)) enough last;

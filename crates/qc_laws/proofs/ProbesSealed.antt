@@ -117,7 +117,7 @@ module _ {t : Types} where
       record {
         packet = as_sealed m k.mask k.sealer c.state form.OneRtt fs;
         is = is_sealed m s c.state form.OneRtt fs k here
-            (λ fields. carried_fit may.closing time c.state form.OneRtt may.room fs (omega (arith, may.small)) (subst (λ (n : ℕ). n < 2 ^ 62) (sym (here.written «Data»)) (fields.crypto «Data»)) may.carries);
+            (λ fields. carried_fit may.token may.closing time c.state form.OneRtt may.room fs (omega (arith, may.small)) (subst (λ (n : ℕ). n < 2 ^ 62) (sym (here.written «Data»)) (fields.crypto «Data»)) may.carries);
         bytes = bytes_are m c.state form.OneRtt fs k;
         can = λ fields. let sized = probe_len c.state size within.0 (subst (λ (cid : List ℕ). length cid ≤ 20) (sym here.cid) fields.ids.dst) in
             can_arrive s c.state form.OneRtt fs [] here fields (omega (arith, sized.0, within.1)) sized.1 (λ e. refl);

@@ -100,7 +100,7 @@ module _ {H P : Type 0} where
   used_sealer v form.OneRtt n form.OneRtt = ring_sealer n v.«data»
   used_sealer v _ n _ = refl
 
-  used_epoch : (v : KeyGroup H P) (f : Form) (n : ℕ) (g : Form) → epoch_in (key_used v f n) g ≡ epoch_in v g
+  pub used_epoch : (v : KeyGroup H P) (f : Form) (n : ℕ) (g : Form) → epoch_in (key_used v f n) g ≡ epoch_in v g
   unfolding key_used epoch_in
   used_epoch v form.OneRtt n form.OneRtt = ring_epoch n v.«data»
   used_epoch v _ n _ = refl
@@ -303,7 +303,7 @@ module _ {t : Types} where
   AlikeAfter a b = SealsAlike a.state b.state
 
   begin_alike : (id : SpaceId) (opens : Bool) (a : At t) → AlikeAfter a (move_to (Begin id opens) a)
-  unfolding move_to state_move keys_move life_move paths_move setup_move numbers_move waiting_move may_update_now
+  unfolding move_to state_move keys_move life_move paths_move setup_move numbers_move waiting_move may_update_now packet_drawn
   begin_alike id opens a = record { masks = λ f. refl; sealers = λ f. refl; epochs = λ f. refl; nexts = refl; may = refl; cid = refl; spin = refl; fixed = refl; token = refl; peer = refl; acked = λ x. refl; written = begun_written id opens a.state }
 
   skip_alike : (a : At t) → AlikeAfter a (move_to Skip a)
@@ -319,7 +319,7 @@ module _ {t : Types} where
   move_alike _ r a = absurd r
 
   seal_alike : (time n size : ℕ) (f : Form) (fs : List FrameValue) (a : At t) → AlikeAfter a (move_to (Seal time f n size fs) (move_to (Take (number_space f) fs) a))
-  unfolding move_to state_move keys_move life_move paths_move setup_move numbers_move waiting_move may_update_now packet_drawn
+  unfolding move_to state_move keys_move life_move paths_move setup_move numbers_move waiting_move may_update_now
   seal_alike time n size f fs a = record {
     masks = used_mask a.state.keys f n;
     sealers = used_sealer a.state.keys f n;

@@ -88,7 +88,7 @@ own_given : {t : Types} (m : Meaning t) (x : Move t) (s : View t) → IsOwn x �
 own_given m (Write bytes keys session) s h = absurd h
 own_given m _ s h = tt
 
-client_only : (side : Side) → is_client side ≡ true → side ≡ Client
+pub client_only : (side : Side) → is_client side ≡ true → side ≡ Client
 client_only Client h = refl
 client_only Server h = absurd cc
 

@@ -26,13 +26,15 @@ use Rattle.qc_state.specs.Ids.{ids_want, sealed_cid, sealed_cids}
 use Rattle.qc_state.specs.Lower.{datagrams_stepped, frames_sealed, ids_stepped, packet_flown, streams_stepped}
 use Rattle.qc_state.specs.Moves.{Begin, Seal, Skip, Take, armed_with, keys_move, lower_move, move_to, numbers_move, paths_move, state_move, waiting_move}
 use Rattle.qc_state.specs.Numbers.{acked_number, coming_number, is_skipped, next_number, number_used}
-use Rattle.qc_state.specs.Offers.{datagram_waits, packet_begun, path_size, probe_begun, probe_sent, short_room, streams_filed, streams_want, wants_sending}
+use Rattle.qc_state.specs.Offers.{datagram_waits, packet_begun, path_size, probe_begun, probe_sent, short_room, streams_filed, streams_want, wants_sending, tokens_want}
 use Rattle.qc_state.specs.Paths.{most_on, path_kept}
 use Rattle.qc_state.specs.Batches.{is_in_order, is_last_in}
 use Rattle.qc_state.specs.Sending.{Carries, Going, MayFollow, Sent, begun_after, flown_after, is_flown, packet_after, packet_size, sealed_in, skipped_after, spent_after, wants_in}
+use Rattle.qc_state.specs.Keys.{form_in}
+use Rattle.qc_state.specs.Setup.{packet_drawn}
 use Rattle.qc_state.specs.Spaces.{is_space, space_of, with_space}
 use Rattle.qc_state.specs.StreamFrames.{sealed_step, sealed_steps}
-use Rattle.qc_state.specs.Types.{Types, Meaning}
+use Rattle.qc_state.specs.Types.{TokenMaker, Types, Meaning}
 use Rattle.qc_state.specs.View.{View, At}
 use Rattle.qc_state.specs.Waiting.{bundle_next, packet_told, probe_spent, waiting_without, wants_here, without, without_all}
 use Rattle.qc_state.proofs.DatagramSteps.{datagrams_close, datagrams_padded}
@@ -171,8 +173,8 @@ module _ {S : Type 0} where
   owed_low true l id n packet = (refl, refl, refl)
   owed_low false l id n packet = (refl, refl, refl)
 
-module _ {t : Types} where
-  waits_own : (time : ℕ) (s : View t) (id : SpaceId) (f : FrameValue) → Waits time s id f → is_space id «Data» ≡ false → (sealed_step f ≡ []) × (sealed_cid f ≡ []) × (sealed_datagram f ≡ [])
+module _ {t : Types} (maker : TokenMaker t) where
+  waits_own : (time : ℕ) (s : View t) (id : SpaceId) (f : FrameValue) → Waits maker time s id f → is_space id «Data» ≡ false → (sealed_step f ≡ []) × (sealed_cid f ≡ []) × (sealed_datagram f ≡ [])
   unfolding Waits
   waits_own time s id (frames.Stream stream offset fin body) w e = absurd (not_data id w.0 e)
   waits_own time s id (frames.ResetStream stream code size) w e = absurd (not_data id w.0 e)
@@ -185,12 +187,12 @@ module _ {t : Types} where
   waits_own time s id (frames.Datagram body) w e = absurd (not_data id w.0 e)
   waits_own time s id _ w e = (refl, refl, refl)
 
-  wait_own : (time : ℕ) (s : View t) (id : SpaceId) (fs : List FrameValue) → WaitAll time s id fs → is_space id «Data» ≡ false → AreOwn fs
+  wait_own : (time : ℕ) (s : View t) (id : SpaceId) (fs : List FrameValue) → WaitAll maker time s id fs → is_space id «Data» ≡ false → AreOwn fs
   unfolding WaitAll
   wait_own time s id [] w e = own_none
   wait_own time s id (f ∷ fs) w e = own_more f fs (waits_own time s id f w.0 e) (wait_own time (state_move (Take id (f ∷ [])) s) id fs w.1 e)
 
-  pub carried_own : (closing : Bool) (time : ℕ) (s : View t) (form : Form) (room : ℕ) (fs : List FrameValue) → Carries closing time s form room fs → is_space (number_space form) «Data» ≡ false → AreOwn fs
+  pub carried_own : (closing : Bool) (time : ℕ) (s : View t) (form : Form) (room : ℕ) (fs : List FrameValue) → Carries maker closing time s form room fs → is_space (number_space form) «Data» ≡ false → AreOwn fs
   carried_own closing time s form room fs (Carries.a_close owed gs n closes is) e = own_padded n fs gs is (record {
     streams = sealed_close time s (number_space form) room gs closes;
     cids = cids_close time s (number_space form) room gs closes;
@@ -198,8 +200,9 @@ module _ {t : Types} where
   })
   carried_own closing time s form room fs (Carries.what_waits free gs n wait is) e = own_padded n fs gs is (wait_own time s (number_space form) gs wait e)
 
-  -- ---- what waits in a space
+-- ---- what waits in a space
 
+module _ {t : Types} where
   -- what follows from these is the same: what waits in a space that elicits an acknowledgement
   record Alike (id : SpaceId) (s s' : View t) : Type 0 where
     pub space : space_of s'.waiting.spaces id ≡ space_of s.waiting.spaces id
@@ -213,9 +216,9 @@ module _ {t : Types} where
 
   alike_wants : (id : SpaceId) (s s' : View t) → Alike id s s' → wants_in s' id ≡ wants_in s id
   unfolding wants_sending datagram_waits short_room
-  alike_wants Initial s s' h = λ i. (wants_here (h.space i) || (streams_want Initial (h.streams i) || ids_want Initial (h.cids i))) || false
-  alike_wants Handshake s s' h = λ i. (wants_here (h.space i) || (streams_want Handshake (h.streams i) || ids_want Handshake (h.cids i))) || false
-  alike_wants Data s s' h = λ i. (wants_here (h.space i) || (streams_want «Data» (h.streams i) || ids_want «Data» (h.cids i)))
+  alike_wants Initial s s' h = λ i. (wants_here (h.space i) || (streams_want Initial (h.streams i) || (ids_want Initial (h.cids i) || tokens_want Initial (h.space i)))) || false
+  alike_wants Handshake s s' h = λ i. (wants_here (h.space i) || (streams_want Handshake (h.streams i) || (ids_want Handshake (h.cids i) || tokens_want Handshake (h.space i)))) || false
+  alike_wants Data s s' h = λ i. (wants_here (h.space i) || (streams_want «Data» (h.streams i) || (ids_want «Data» (h.cids i) || tokens_want «Data» (h.space i))))
       || first_fits (h.size i - 16 - (1 + length (h.cid i) + number_len (number_of (h.coming i) (h.acked i)))) (h.posts i).outgoing
 
   -- ---- a packet is begun
@@ -231,11 +234,12 @@ module _ {t : Types} where
   filed_early Handshake s e = refl
   filed_early Data s e = cc
 
-  early_begun : (id : SpaceId) (opens : Bool) (a : At t) → ((space_of a.state.waiting.spaces id).probes == 0) ≡ true → is_space id «Data» ≡ false → (begun_after id opens a).state ≡ a.state
+  early_begun : (id : SpaceId) (opens : Bool) (a : At t) → ((space_of a.state.waiting.spaces id).probes == 0) ≡ true → is_space id «Data» ≡ false →
+      (begun_after id opens a).state ≡ record a.state { setup = packet_drawn a.state.setup (form_in a.state.keys id) }
   unfolding begun_after skipped_after move_to
   early_begun id opens a none e =
-      let c : At t = move_to (Begin id opens) a in
-      ap (λ (b : Bool). (if b then move_to Skip c else c).state) (early_unskipped c.state.numbers id e) ∙ sym (begun_is id opens a.state) ∙ none_begun id opens a.state none ∙ filed_early id a.state e
+      ap (λ (b : Bool). state_move (Begin id opens) (if b then move_to Skip a else a).state) (early_unskipped a.state.numbers id e) ∙ sym (begun_is id opens a.state)
+      ∙ ap (λ (x : View t). record x { setup = packet_drawn x.setup (form_in x.keys id) }) (none_begun id opens a.state none ∙ filed_early id a.state e)
 
   skip_waiting : (c : At t) (b : Bool) → (if b then move_to Skip c else c).state.waiting ≡ c.state.waiting
   unfolding move_to state_move waiting_move
@@ -245,8 +249,10 @@ module _ {t : Types} where
   begun_waiting : (id : SpaceId) (opens : Bool) (a : At t) → ((space_of a.state.waiting.spaces id).probes == 0) ≡ true → (begun_after id opens a).state.waiting ≡ a.state.waiting
   unfolding begun_after skipped_after move_to streams_filed
   begun_waiting id opens a none =
-      let c : At t = move_to (Begin id opens) a in
-      skip_waiting c (is_skipped c.state.numbers id) ∙ ap (λ (s : View t). s.waiting) (sym (begun_is id opens a.state) ∙ none_begun id opens a.state none)
+      let c : At t = if is_skipped a.state.numbers id then move_to Skip a else a in
+      let same : c.state.waiting ≡ a.state.waiting = skip_waiting a (is_skipped a.state.numbers id) in
+      let free : ((space_of c.state.waiting.spaces id).probes == 0) ≡ true = ap (λ (w : Waiting). (space_of w.spaces id).probes == 0) same ∙ none in
+      ap (λ (s : View t). s.waiting) (sym (begun_is id opens c.state)) ∙ ap (λ (s : View t). s.waiting) (none_begun id opens c.state free) ∙ same
 
   -- ---- a packet is taken and sealed
 
@@ -301,8 +307,18 @@ module _ {t : Types} where
       let b : At t = begun_after x p.opens g.now in
       let end : At t = sealed_in m time p.form p.frames b in
       let e : is_space x «Data» ≡ false = stands_early x id order other in
-      alike_wants id g.now.state end.state
-      (subst (λ (s : View t). Alike id s end.state) (early_begun x p.opens g.now none e) (sealed_alike m time p.form p.frames b id (carried_own g.batch.closing time _ p.form _ p.frames may.carries e) e other))
+      let alike : Alike id (record g.now.state { setup = packet_drawn g.now.state.setup (form_in g.now.state.keys x) }) end.state =
+      subst (λ (s : View t). Alike id s end.state) (early_begun x p.opens g.now none e) (sealed_alike m time p.form p.frames b id (carried_own m.token g.batch.closing time _ p.form _ p.frames may.carries e) e other) in
+      alike_wants id g.now.state end.state (record {
+        space = alike.space;
+        streams = alike.streams;
+        cids = alike.cids;
+        posts = alike.posts;
+        cid = alike.cid;
+        size = alike.size;
+        coming = alike.coming;
+        acked = alike.acked;
+      })
 
   -- and the probes that are due
   pub packet_probes : (m : Meaning t) (time : ℕ) (p : Sent) (g : Going t) → ((space_of g.now.state.waiting.spaces (number_space p.form)).probes == 0) ≡ true →

@@ -216,6 +216,7 @@ module _ {t : Types} where
         waiting = ap (λ (v : View t). v.waiting) state;
         setup = ap (λ (v : View t). v.setup) state;
         lower = ap (λ (v : View t). v.lower) state;
+        issuer = ap (λ (v : View t). v.issuer) state;
         forward = forward;
         deeds = is_did ∙ ap (λ (y : At t). y.did) same;
         allowed = h.allowed;

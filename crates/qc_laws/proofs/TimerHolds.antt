@@ -534,7 +534,7 @@ module _ {t : Types} where
   same_view : (late : Bool) (v w : View t) → w.life ≡ v.life → w.paths ≡ v.paths → w.timers ≡ v.timers → w.lower ≡ v.lower → w.keys ≡ v.keys → w.setup ≡ v.setup → TimerHolds late v → TimerHolds late w
   unfolding awaits_ack elicits_in must_probe is_validated_by_peer has_probe_keys has_asked
   same_view late v w life paths timers lower keys setup h =
-      subst (λ (x : View t). TimerHolds late x) (sym (λ i. record { numbers = w.numbers; keys = keys i; life = life i; paths = paths i; timers = timers i; waiting = w.waiting; setup = setup i; lower = lower i }))
+      subst (λ (x : View t). TimerHolds late x) (sym (λ i. record { numbers = w.numbers; keys = keys i; life = life i; paths = paths i; timers = timers i; waiting = w.waiting; setup = setup i; lower = lower i; issuer = w.issuer }))
       (record { stands = h.stands; spaces = λ id. record { flight = (h.spaces id).flight; keyed = (h.spaces id).keyed; below = (h.spaces id).below } })
 
   began_holds : (m : Meaning t) (s : View t) (time : ℕ) (late : Bool) → TimerHolds late s → TimerHolds late (began s time).state

@@ -472,7 +472,7 @@ module _ {t : Types} where
   fired_before m after s k = less_before s (state_move (Fire after) s) refl (no_ring_moves s.keys s.keys refl) (λ id. fired_less m id after s k)
 
   plain_probe : (m : Meaning t) (x : Move t) (s : View t) → IsPlain m x s → Spaces s → must_probe (state_move x s) ≡ true → must_probe s ≡ true
-  unfolding must_probe is_validated_by_peer has_probe_keys has_asked state_move lower_move keys_move setup_move bytes_came session_read limits_learned frame_handed streams_closed streams_stepped datagrams_stepped event_told events_told failure_counted has_keys has_keys_for form_in token_expected parameters_known word_drawn frames_sealed ids_stepped
+  unfolding must_probe is_validated_by_peer has_probe_keys has_asked state_move lower_move keys_move setup_move bytes_came session_read limits_learned frame_handed streams_closed streams_stepped datagrams_stepped event_told events_told failure_counted has_keys has_keys_for form_in token_expected parameters_known word_drawn packet_drawn frames_sealed ids_stepped
   plain_probe m (Seal time form n size fs) s k h e = absurd k
   plain_probe m (Ack space n after) s k h e = before_probes s (state_move (Ack space n after) s) (settled_before m space n after s k) e
   plain_probe m (Fire after) s k h e = before_probes s (state_move (Fire after) s) (fired_before m after s k) e

@@ -1,13 +1,18 @@
--- The 1-RTT keys of a connection are its session's, each of its epoch (RFC 9001, section 6.1).
-use Rattle.std.specs.Prelude.{◌≡◌, ℕ, ◌+◌, ◌*◌, ◌≤◌, Bool, true, false, Option, Some, None, is_some}
-use Rattle.qc_base.specs.declared.side.SpaceId.TheVariants.{«Data»}
+-- The keys of a connection are its session's: those of the Initial and the Handshake space, and the 1-RTT keys, each of its epoch (RFC 9001, sections 5.1,
+-- 5.2 and 6.1).
+use Rattle.std.specs.Prelude.{◌≡◌, ℕ, ◌+◌, ◌*◌, ◌≤◌, ◌<◌, Bool, true, false, List, Option, Some, None, is_some}
+use Rattle.qc_base.specs.declared.side.Side.{Side}
+use Rattle.qc_base.specs.declared.side.SpaceId.TheVariants.{Initial, Handshake, «Data»}
 use Rattle.qc_crypto.specs.declared.keys.KeyPair.{KeyPair}
 use Rattle.qc_crypto.specs.declared.session.Session.{Ghosts as SessionGhosts}
 use Rattle.qc_rings.specs.Ring.{Kept, Dropped, Ring}
 use Rattle.qc_state.specs.declared.keys.OneRttKeys.{OneRttKeys}
+use Rattle.qc_state.specs.declared.keys.SpaceKeys.{SpaceKeys}
 use Rattle.qc_state.specs.Numbers.{next_number}
+use Rattle.qc_state.specs.Paths.{chosen_or}
 use Rattle.qc_state.specs.Types.{Types, Meaning}
 use Rattle.qc_state.specs.View.{View}
+use Rattle.qc_laws.specs.RetryLaws.{HaveLimits}
 
 -- 1 where it is so
 abbrev pub one_if : Bool → ℕ
@@ -49,3 +54,28 @@ module _ {t : Types} (m : Meaning t) (calls : SessionGhosts t.S t.H t.P t.D t.I)
   pub record KeysFit (s : View t) : Type 0 where
     pub sound : calls.is_sound s.lower.session
     pub keys : FitKeys s.lower.session (next_number s.numbers «Data») s.keys.«data»
+
+  -- Initial keys, if there are any, are those that the session gives of this id for an end of this side, and the limits are those of the key that seals
+  abbrev pub FitInitial : t.S → (cid : List ℕ) → Side → Option (SpaceKeys t.H t.P) → Type 0
+  FitInitial session cid side None = Unit {0}
+  FitInitial session cid side (Some k) = (k.keys ≡ m.initial session cid side) × HaveLimits m k
+
+  -- Handshake keys are the session's, which has given some: those of its Handshake space; and so are the limits
+  pub record AreHandshakes (session : t.S) (k : SpaceKeys t.H t.P) : Type 0 where
+    pub changed : 0 < calls.changes session
+    pub keys : k.keys ≡ calls.space_keys session Handshake
+    pub limits : HaveLimits m k
+
+  -- so are those that there are
+  abbrev pub FitHandshake : t.S → Option (SpaceKeys t.H t.P) → Type 0
+  FitHandshake session None = Unit {0}
+  FitHandshake session (Some k) = AreHandshakes session k
+
+  -- The Initial and the Handshake keys of a view are its session's, whose own facts hold: those of the destination id of the client's first packets, or of
+  -- the source id of the Retry that was taken, and those of the Handshake space. While Initial is the highest space, the session has given no keys:
+  -- so the first that it gives are those of the Handshake space.
+  pub record SpaceKeysFit (s : View t) : Type 0 where
+    pub sound : calls.is_sound s.lower.session
+    pub begins : s.keys.highest ≡ Initial → calls.changes s.lower.session ≡ 0
+    pub initial : FitInitial s.lower.session (chosen_or s.setup.fixed.first_cid s.setup.retry_cid) s.setup.fixed.side s.keys.initial
+    pub handshake : FitHandshake s.lower.session s.keys.handshake

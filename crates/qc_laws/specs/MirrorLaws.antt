@@ -172,8 +172,9 @@ module _ {t : Types} where
 
   -- Where a step may be made, where these pieces come. Keys are taken where there are none. A packet is sealed where there are keys, has a number not
   -- below the next one, and acknowledges no number above all that were opened. An update is one that was allowed, and one of the peer's is followed
-  -- where the one before was answered. What a ring takes with it into a new epoch is what the session gives then. A number that is accepted was
-  -- opened; and whatever is acknowledged, or given, stands in a payload that was.
+  -- where the one before was answered, by a packet with a number above all that were accepted (RFC 9001, sections 6.2 and 6.4). What a ring takes
+  -- with it into a new epoch is what the session gives then. A number that is accepted was opened; and whatever is acknowledged, or given, stands
+  -- in a payload that was.
   abbrev pub MayLedger : Meaning t → (Comes : Piece → Type 0) → LedgerStep t → Ledger t → Type 0
   MayLedger m Comes (Calls session) e =
       ((bytes : List ℕ) × (session ≡ m.after_read e.session bytes))
@@ -184,7 +185,7 @@ module _ {t : Types} where
   MayLedger m Comes (Updates fresh session) e = (ring_may_update e.keys ≡ true) × (fresh ≡ fresh_for m.seal_limit m.failure_limit e.keys (m.next_keys e.session)) × (session ≡ m.after_next e.session)
   MayLedger m Comes (Opens piece number payload which fresh session) e =
       Comes piece × OpensPiece m e piece number payload which × (fresh ≡ fresh_of m which e.keys e.session) × (session ≡ session_by m which e.session)
-      × (which ≡ Next → waits_for_answer e.keys ≡ false)
+      × (which ≡ Next → waits_for_answer e.keys ≡ false) × (which ≡ Next → e.rx < number)
   MayLedger m Comes (Accepts number) e = number < bound e.opened
   MayLedger m Comes (Acknowledges payload largest) e = IsIn payload e.read × ((ack : AckValue) × StandsIn (frames.Ack ack) payload × (largest ≡ ack.largest))
   MayLedger m Comes (Gives payload layer body) e = IsIn payload e.read × ((f : FrameValue) × StandsIn f payload × (body ≡ spelling f))

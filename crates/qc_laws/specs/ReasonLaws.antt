@@ -1,7 +1,7 @@
 -- Why this end ends a connection with KEY_UPDATE_ERROR (RFC 9001, sections 6.2, 6.4 and 6.7): a packet that came shows an update which its sender wasn't
 -- allowed to make, or the session refuses with that code what the peer's handshake says. No other packet, timer or transmit has this end close with it.
 -- And behind which packets an open connection ends at once.
-use Rattle.std.specs.Prelude.{◌≡◌, ℕ, ◌+◌, ◌<◌, List, [], ◌∷◌, ◌++◌, Option, None, Some, IfSome, Err}
+use Rattle.std.specs.Prelude.{◌≡◌, ℕ, ◌+◌, ◌≤◌, ◌<◌, List, [], ◌∷◌, ◌++◌, Option, None, Some, IfSome, Err}
 use Rattle.qc_base.specs.declared.side.SpaceId.{SpaceId}
 use Rattle.qc_base.specs.declared.transport_error.TransportError.{TransportError}
 use Rattle.qc_state.specs.declared.deeds.Did.{Did}
@@ -10,11 +10,15 @@ use Rattle.qc_state.specs.declared.deeds.Layer.TheVariants as layer
 use Rattle.qc_state.specs.declared.deeds.Verdict.{Verdict}
 use Rattle.qc_state.specs.declared.deeds.Verdict.TheVariants as verdict
 use Rattle.qc_state.specs.declared.input.Input.{Input}
+use Rattle.qc_base.specs.Time.{plus}
+use Rattle.qc_state.specs.declared.life.ConnectionError.{ConnectionError}
 use Rattle.qc_state.specs.declared.life.ConnectionError.TheVariants as lost
+use Rattle.qc_state.specs.declared.life.State.TheVariants.{Drained}
+use Rattle.qc_state.specs.Keys.{integrity_limit_of}
 use Rattle.qc_state.specs.declared.trace.Step.{Step}
 use Rattle.qc_state.specs.Run.{IsStep}
 use Rattle.qc_state.specs.Types.{Types, Meaning}
-use Rattle.qc_state.specs.View.{View}
+use Rattle.qc_state.specs.View.{View, At}
 
 -- KEY_UPDATE_ERROR (RFC 9000, section 20.1)
 abbrev pub KEY_UPDATE_ERROR : ℕ
@@ -86,3 +90,20 @@ EndsBehind rank [] = Unit {0}
 EndsBehind rank (did.Piece space number v ∷ ds) = (rank < 2 → IfSome (rises_behind v) (λ life. RisesFirst life ds)) × EndsBehind rank ds
 EndsBehind rank (did.Rose life ∷ ds) = EndsBehind life ds
 EndsBehind rank (_ ∷ ds) = EndsBehind rank ds
+
+-- ---- packets that don't open
+
+-- the deed by which a reason is given, where none was before
+abbrev pub reason_deeds : Option ConnectionError → ConnectionError → List Did
+reason_deeds None why = did.Lost why ∷ []
+reason_deeds (Some earlier) why = []
+
+module _ {t : Types} where
+  -- A packet of a form with this space, which its key didn't open, counts, and is told of. Where more packets didn't open than the key that seals in the
+  -- highest space lets pass, the connection ends at once, with AEAD_LIMIT_REACHED as the reason, if none was given before; and elsewhere it goes on
+  -- (RFC 9001, section 6.6).
+  pub record Fails (space : SpaceId) (a b : At t) : Type 0 where
+    pub counted : b.state.keys.failures ≡ plus a.state.keys.failures 1
+    pub ends : (limit : ℕ) → integrity_limit_of a.state.keys a.state.keys.highest ≡ Some limit → limit < b.state.keys.failures → (b.state.life.state ≡ Drained)
+        × (b.did ≡ a.did ++ did.Piece (Some space) None verdict.Failure ∷ did.Rose 4 ∷ reason_deeds a.state.life.reason (lost.TransportError (record { code = 0x0f; frame = None })))
+    pub goes_on : (limit : ℕ) → integrity_limit_of a.state.keys a.state.keys.highest ≡ Some limit → b.state.keys.failures ≤ limit → (b.state.life ≡ a.state.life) × (b.did ≡ a.did ++ did.Piece (Some space) None verdict.Failure ∷ [])

@@ -5,7 +5,7 @@ ghost use Rattle.qc_base.specs.declared.side.SpaceId.{SpaceId};
 ghost use Rattle.qc_base.specs.declared.side.SpaceId.TheVariants.{«Data»};
 ghost use Rattle.qc_frame.specs.Frame.{FrameValue};
 ghost use Rattle.qc_header.specs.HeaderReading.{piece_at};
-ghost use Rattle.qc_header.specs.Piece.{Piece};
+ghost use Rattle.qc_header.specs.Piece.{Piece, space_of};
 ghost use Rattle.qc_path.specs.Arrived.{Remembers, Window, is_among};
 ghost use Rattle.qc_laws.specs.AckLaws.{AckHolds, EachHoldsAck};
 ghost use Rattle.qc_laws.specs.AckedLaws.{AcksFrames};
@@ -14,12 +14,12 @@ ghost use Rattle.qc_laws.specs.CidLaws.{HasNewIds, KeepsLength, TellsIssued, Use
 ghost use Rattle.qc_laws.specs.CryptoLaws.{KeepsBytes};
 ghost use Rattle.qc_laws.specs.DatagramLaws.{DatagramHolds};
 ghost use Rattle.qc_laws.specs.EndLaws.{Ends};
-ghost use Rattle.qc_laws.specs.FitLaws.{KeysFit};
+ghost use Rattle.qc_laws.specs.FitLaws.{KeysFit, SpaceKeysFit};
 ghost use Rattle.qc_laws.specs.EventLaws.{EachTells, OnlyDoneWaits, TellsOnce, untold_of};
 ghost use Rattle.qc_state.specs.Headline.{deeds_of, accepted_in, is_datagram, AcksOnly, EachAcksKnown, EachNew, Harmless, IsKept, NoneTwice};
 ghost use Rattle.qc_laws.specs.IdLaws.{FoldsIds, IdsHold};
 ghost use Rattle.qc_laws.specs.InitialLaws.{LeavesInitial};
-ghost use Rattle.qc_laws.specs.KeyLaws.{CountsBehind, KeysHold};
+ghost use Rattle.qc_laws.specs.KeyLaws.{CountsBehind, EachLimitEnds, KeysHold, LimitsEnd, SparesKeys};
 ghost use Rattle.qc_laws.specs.MarkLaws.{EachTold};
 ghost use Rattle.qc_state.specs.Numbers.{next_number};
 ghost use Rattle.qc_state.specs.Opening.{opening_of};
@@ -31,14 +31,19 @@ ghost use Rattle.qc_state.specs.Receiving.{datagram_after, event_after, first_pa
 ghost use Rattle.qc_laws.specs.PostLaws.{FoldsPosts, HasNewDatagrams, SealsSent, TakesTrace};
 ghost use Rattle.qc_laws.specs.ReadLaws.{HasNewStreams, ReadsTrace};
 ghost use Rattle.qc_rings.specs.declared.which.Which.{Which};
-ghost use Rattle.qc_state.specs.Life.{rank_of};
-ghost use Rattle.qc_laws.specs.ReasonLaws.{EndsBehind, EachCauses};
+ghost use Rattle.qc_state.specs.Life.{is_over, rank_of};
+ghost use Rattle.qc_laws.specs.ReasonLaws.{EachCauses, EndsBehind, Fails};
 ghost use Rattle.qc_laws.specs.RecoveryLaws.{EachSettlesOnce, Recovers};
 ghost use Rattle.qc_laws.specs.RetryLaws.{AreOfInputs, EachMismatch, HasSpaceKeys, TakesOneRetry};
 ghost use Rattle.qc_laws.specs.SealLaws.{EachSealsAnswer, KeepsFields, SealsBetween};
 ghost use Rattle.qc_base.specs.declared.side.Side.{Side};
+ghost use Rattle.qc_base.specs.declared.side.Side.TheVariants.{Client, Server};
+ghost use Rattle.rand_core.specs.Stream.{Stream};
+ghost use Rattle.std.specs.declared.net.SocketAddr.{SocketAddr};
+ghost use Rattle.qc_state.specs.declared.setup.Fixed.{Fixed};
+ghost use Rattle.qc_state.specs.declared.tokens.Issuer.{Issuer};
 ghost use Rattle.qc_recovery.specs.TransportValues.{TransportValues};
-ghost use Rattle.qc_state.specs.First.{first_streams};
+ghost use Rattle.qc_state.specs.First.{first_streams, first_view, server_view};
 ghost use Rattle.qc_streams.specs.Within.{StaysWithin};
 ghost use Rattle.qc_state.specs.Run.{IsStep, Run, began, placed_behind};
 ghost use Rattle.qc_state.specs.Sending.{Transmits};
@@ -55,7 +60,7 @@ ghost use Rattle.qc_state.specs.declared.deeds.Did.{Did};
 ghost use Rattle.qc_state.specs.declared.deeds.Did.TheVariants as did;
 ghost use Rattle.qc_state.specs.declared.input.Input.{Input};
 ghost use Rattle.qc_state.specs.declared.input.Input.TheVariants as input;
-ghost use Rattle.qc_state.specs.declared.opening.Opening.TheVariants.{Opened};
+ghost use Rattle.qc_state.specs.declared.opening.Opening.TheVariants.{Opened, Unopened};
 ghost use Rattle.qc_state.specs.declared.trace.Step.{Step};
 ghost use Rattle.qc_state.specs.declared.transmit.Transmit.{Transmit};
 
@@ -163,12 +168,41 @@ pub fn keys_fit_their_session<U: Suite>()
     ensures { (s last : View ⟦<U as Means>⟧.types) (k : ℕ) (is : List Input) (xs : List Step) → Run ⟦<U as Means>⟧.meaning k s is xs last → AreLast s → next_number last.numbers «Data» ≤ 4611686018427387904 → KeysFit ⟦<U as Means>⟧.meaning U.Session.Session s → KeysFit ⟦<U as Means>⟧.meaning U.Session.Session last }
 {}
 
+/// A law, which runs no code. Over a run the Initial and the Handshake keys, while there are any, stay the session's, whatever it reads and writes behind
+/// them: those of the destination id of the client's first packets, or of the source id of the Retry that was taken, and those of its Handshake space,
+/// each with the limits of the key that seals (`run`; RFC 9001, 4.1.4, 5.1, 5.2 and 6.6). So it is from a new connection on: a client's, whose
+/// fresh session wrote its hello, and a server's, whose session is fresh (`client`, `server`).
+pub fn space_keys_fit<U: Suite>()
+    ensures run { (s last : View ⟦<U as Means>⟧.types) (k : ℕ) (is : List Input) (xs : List Step) → Run ⟦<U as Means>⟧.meaning k s is xs last → SpaceKeysFit ⟦<U as Means>⟧.meaning U.Session.Session s → SpaceKeysFit ⟦<U as Means>⟧.meaning U.Session.Session last }
+    ensures client { (session : ⟦<U as Means>⟧.types.S) (words : Stream) (fixed : Fixed) (remote : SocketAddr) (first_cid token : List ℕ) (transport : TransportValues) (congestion : ⟦<U as Means>⟧.types.C) (time : ℕ) → U.Session.is_fresh session → U.Session.side_of session ≡ Client → fixed.first_cid ≡ first_cid → fixed.side ≡ Client → SpaceKeysFit ⟦<U as Means>⟧.meaning U.Session.Session (first_view ⟦<U as Means>⟧.meaning session words fixed remote first_cid token transport congestion time) }
+    ensures server { (session : ⟦<U as Means>⟧.types.S) (words : Stream) (fixed : Fixed) (remote : SocketAddr) (remote_cid : List ℕ) (validated : Bool) (issuer : Issuer ⟦<U as Means>⟧.types.K ⟦<U as Means>⟧.types.T) (transport : TransportValues) (congestion : ⟦<U as Means>⟧.types.C) (time : ℕ) → U.Session.is_fresh session → fixed.side ≡ Server → SpaceKeysFit ⟦<U as Means>⟧.meaning U.Session.Session (server_view ⟦<U as Means>⟧.meaning session words fixed remote remote_cid validated issuer transport congestion time) }
+{}
+
 /// A law, which runs no code. Over a run this end gives an error of its own with KEY_UPDATE_ERROR's code as the reason for the end (RFC 9001,
 /// 6.7) only where, in the same step, it closed right behind a packet that it tells as one with an update which its sender wasn't allowed to make
 /// (RFC 9001, 6.2 and 6.4); or right behind bytes that the session was given and refuses with this very error; or where the session, as calls
 /// since the step began left it, refuses the peer's parameters with it. So packets that don't open, frames, timers and transmits never bring it about.
 pub fn update_errors_are_caused<U: Suite>()
     ensures { (s last : View ⟦<U as Means>⟧.types) (k : ℕ) (is : List Input) (xs : List Step) → Run ⟦<U as Means>⟧.meaning k s is xs last → EachCauses ⟦<U as Means>⟧.meaning k s is xs last }
+{}
+
+/// A law, which runs no code. A packet that its key didn't open is counted and told of; and the connection ends at once, with AEAD_LIMIT_REACHED as the
+/// reason, unless one was given before, where more didn't open than the key that seals in the highest space lets pass, and only there (RFC
+/// 9001, 6.6).
+pub fn failures_end<U: Suite>()
+    ensures { (a : At ⟦<U as Means>⟧.types) (coming : Coming) (p : Piece) (space : SpaceId) → is_over a.state.life.state ≡ false → space_of p.header ≡ Some space → opening_of ⟦<U as Means>⟧.meaning a.state p ≡ Unopened → Fails space a (piece_after ⟦<U as Means>⟧.meaning coming p a) }
+{}
+
+/// A law, which runs no code. Over a run from keys that are spared on, each key that has sealed a packet may seal two more, while the connection is
+/// open. A transmit by which one of them may seal at most one more ends with the packet that did it: right behind that packet the connection is
+/// closed with AEAD_LIMIT_REACHED, which is the reason, unless one was given before; and this key may seal the close, if it may seal two packets at
+/// all. A transmit that ends the connection at once, as a packet is about to begin, does it with this reason where the packet's key has sealed as many as
+/// it may, and there alone. No transmit closes or gives this reason where each key may seal two packets more (RFC 9001, 6.6). So it is with each transmit
+/// by itself.
+pub fn limits_end<U: Suite>()
+    ensures spared { (s last : View ⟦<U as Means>⟧.types) (k : ℕ) (is : List Input) (xs : List Step) → Run ⟦<U as Means>⟧.meaning k s is xs last → SparesKeys s → SparesKeys last }
+    ensures ended { (s last : View ⟦<U as Means>⟧.types) (k : ℕ) (is : List Input) (xs : List Step) → Run ⟦<U as Means>⟧.meaning k s is xs last → SparesKeys s → EachLimitEnds ⟦<U as Means>⟧.meaning k s is xs last }
+    ensures transmit { (time asked : ℕ) (s : View ⟦<U as Means>⟧.types) (b : At ⟦<U as Means>⟧.types) (sent : Option Transmit) (bytes : List ℕ) → Transmits ⟦<U as Means>⟧.meaning time asked (at s []) b sent bytes → SparesKeys s → LimitsEnd b.did s b.state }
 {}
 
 /// A law, which runs no code. Over a run an open connection ends right behind each packet that shows a fault of its sender's, before anything else

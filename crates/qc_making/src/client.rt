@@ -90,6 +90,8 @@ pub fn new_client<U: Suite>(
         setup.random,
         given,
         paths,
+        None,
+        0,
         &transport,
         now,
     )

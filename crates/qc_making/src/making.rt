@@ -7,7 +7,7 @@ ghost use Rattle.qc_ids.specs.LocalCids.{first_local_cids};
 ghost use Rattle.qc_path.specs.Acks.{no_marks};
 ghost use Rattle.qc_send_stream.specs.Buffer.{bytes_written, nothing};
 ghost use Rattle.qc_state.specs.Draws.{behind, filter_words, key_phase_of, word};
-ghost use Rattle.qc_state.specs.First.{allowed_by, first_streams, fixed_of, just_made, nothing_waits};
+ghost use Rattle.qc_state.specs.First.{allowed_by, first_streams, fixed_of, just_made, nothing_waits, something_waits};
 ghost use Rattle.qc_state.specs.Setup.{idle_limit_of};
 ghost use Rattle.qc_state.specs.View.{ideal};
 ghost use Rattle.qc_state.specs.declared.spaces.Spaces.{Spaces};
@@ -23,8 +23,9 @@ use qc_path::{Controller, ControllerFactory, PacketNumberFilter, PendingAcks};
 use qc_recovery::{IdleTimeout, Recovery, TransportConfig};
 use qc_state::setup::limit_of_millis;
 use qc_state::{
-    CryptoQueue, EndpointEvents, Events, Fixed, KeyGroup, Life, Lower, Numbers, Paths, Setup,
-    SoundSession, SpaceKeys, SpaceNumbers, SpaceWaiting, Spaces, State, Suite, Timers, Waiting,
+    CryptoQueue, Drawn, EndpointEvents, Events, Fixed, Issuer, KeyGroup, Life, Lower, Numbers,
+    Paths, Setup, SoundSession, SpaceKeys, SpaceNumbers, SpaceWaiting, Spaces, State, Suite,
+    Timers, Waiting,
 };
 use qc_streams::StreamsState;
 use rand_core::Rng;
@@ -129,26 +130,27 @@ fn fixed<R: Rng>(given: Given, transport: &TransportConfig, random: &mut R) -> F
     }
 }
 
-/// A space in which nothing waits but these CRYPTO bytes.
-fn space_with(crypto: CryptoQueue) -> SpaceWaiting
-    ensures { result ≡ record { done = false; ping = false; crypto = crypto; acks = record { ranges = []; marks = no_marks }; marks = None; probes = 0 } }
+/// A space in which nothing waits but these CRYPTO bytes, and so many NEW_TOKENs.
+fn space_with(crypto: CryptoQueue, tokens: u64) -> SpaceWaiting
+    ensures { result ≡ record { done = false; ping = false; crypto = crypto; tokens = tokens; acks = record { ranges = []; marks = no_marks }; marks = None; probes = 0 } }
 {
     SpaceWaiting {
         done: false,
         ping: false,
         crypto,
+        tokens,
         acks: PendingAcks::new(),
         marks: None,
         probes: 0,
     }
 }
 
-/// A space in which nothing waits.
+/// A space in which nothing waits but so many NEW_TOKENs.
 #[tactic(auto, unfolding(qc_send_stream::specs::Buffer::bytes_written, qc_send_stream::specs::Buffer::nothing, qc_send_stream::specs::Buffer::row))]
-fn nothing_waits(alloc: Global) -> SpaceWaiting
-    ensures { result ≡ nothing_waits [] }
+fn tokens_wait(alloc: Global, tokens: u64) -> SpaceWaiting
+    ensures { result ≡ something_waits [] tokens }
 {
-    space_with(CryptoQueue::new(alloc))
+    space_with(CryptoQueue::new(alloc), tokens)
 }
 
 /// The CRYPTO bytes of a space in which the session wrote these first. Want of memory is the only refusal.
@@ -163,17 +165,17 @@ fn first_bytes(alloc: Global, bytes: Vec<u8>) -> Result<CryptoQueue, AllocError>
     Ok(queue)
 }
 
-/// What waits of a connection that was just made: what its session wrote. Want of memory is the only refusal.
-fn waiting(alloc: Global, hello: Vec<u8>) -> Result<Waiting, AllocError>
+/// What waits of a connection that was just made: what its session wrote, and so many NEW_TOKENs. Want of memory is the only refusal.
+fn waiting(alloc: Global, hello: Vec<u8>, tokens: u64) -> Result<Waiting, AllocError>
     requires { length hello.items < 2 ^ 62 }
-    ensures { IfOk result (λ waiting. waiting ≡ record { spaces = record { initial = nothing_waits hello.items; handshake = nothing_waits []; application = nothing_waits [] }; close_owed = false; bundled = None }) }
+    ensures { IfOk result (λ waiting. waiting ≡ record { spaces = record { initial = nothing_waits hello.items; handshake = nothing_waits []; application = something_waits [] tokens }; close_owed = false; bundled = None }) }
 {
     let crypto = first_bytes(alloc, hello)?;
     Ok(Waiting {
         spaces: Spaces {
-            initial: space_with(crypto),
-            handshake: nothing_waits(alloc),
-            application: nothing_waits(alloc),
+            initial: space_with(crypto, 0),
+            handshake: tokens_wait(alloc, 0),
+            application: tokens_wait(alloc, tokens),
         },
         close_owed: false,
         bundled: None,
@@ -248,7 +250,7 @@ fn first_ids(alloc: Global, fixed: &Fixed, remote: ConnectionId, now: Instant) -
 }
 
 /// A connection that was just made at `now`: it has these keys of the Initial space, nothing waits but what its session wrote,
-/// its Initial packets carry this token, and these are its paths. It draws what doesn't change of it, and then
+/// and so many NEW_TOKENs, which this makes; its Initial packets carry this token, and these are its paths. It draws what doesn't change of it, and then
 /// which number of 1-RTT packets it skips first. Want of memory is the only refusal.
 #[tactic(auto, unfolding(qc_state::specs::Setup::ideal_setup))]
 pub(crate) fn made<U: Suite>(
@@ -260,13 +262,15 @@ pub(crate) fn made<U: Suite>(
     random: U::Random,
     given: Given,
     paths: Paths<<U::Control as ControllerFactory>::Controller>,
+    issuer: Option<Issuer<U::TokenKey, U::Time>>,
+    tokens: u64,
     transport: &TransportConfig,
     now: Instant,
 ) -> Result<Core<U>, AllocError>
     requires { length hello.items < 2 ^ 62 }
-    ensures { IfOk result (λ core. (ideal U.Random.stream core) ≡ just_made keys session hello.items token (U.Random.stream random) (fixed_of given.side given.version given.local_cid given.first_cid given.cid_lifetime given.preferred given.local_ip transport.now given.grease_quic_bit (U.Random.stream random)) paths transport.now now) }
+    ensures { IfOk result (λ core. (ideal U.Random.stream core) ≡ just_made keys session hello.items token (U.Random.stream random) (fixed_of given.side given.version given.local_cid given.first_cid given.cid_lifetime given.preferred given.local_ip transport.now given.grease_quic_bit (U.Random.stream random)) paths issuer tokens transport.now now) }
 {
-    let waiting = waiting(alloc, hello)?;
+    let waiting = waiting(alloc, hello, tokens)?;
     let mut random = random;
     let fixed = fixed(given, transport, &mut random);
     let filter = PacketNumberFilter::new(&mut random);
@@ -294,6 +298,10 @@ pub(crate) fn made<U: Suite>(
             token: None,
             initial_token: token,
             retry_cid: None,
+            drawn: Drawn {
+                spin: false,
+                flip: false,
+            },
             random,
         },
         lower: Lower {
@@ -308,5 +316,6 @@ pub(crate) fn made<U: Suite>(
             datagrams: datagrams(alloc, transport),
             ids,
         },
+        issuer,
     })
 }

@@ -11,7 +11,7 @@ use qc_base::{ConnectionId, Duration, Instant, Side};
 use qc_core::Core;
 use qc_path::ControllerFactory;
 use qc_recovery::{PathData, TransportConfig, first_mtu};
-use qc_state::{Means, Path, Paths, SoundSession, SpaceKeys, Suite};
+use qc_state::{Issuer, Means, Path, Paths, SoundSession, SpaceKeys, Suite};
 use std::alloc::{AllocError, Global};
 use std::net::{IpAddr, SocketAddr};
 
@@ -46,6 +46,12 @@ pub struct ServerSetup<U: Suite> {
     pub allow_mtud: bool,
     /// The client's id: the source id of its first packets (RFC 9000, 7.2).
     pub remote_cid: ConnectionId,
+    /// The master key of the tokens that are sent to the client (RFC 9000, 8.1.4).
+    pub token_key: U::TokenKey,
+    /// Where the time of their issue comes from.
+    pub time: U::Time,
+    /// How many tokens the client is sent for its later connections, once its address is validated (RFC 9000, 8.1.3).
+    pub sent: u32,
     /// Whether the client may go on from another address (RFC 9000, 9). So far it may not.
     pub migration: bool,
     /// Whether this end announced a preferred address (RFC 9000, 9.6). So far it has no effect.
@@ -62,7 +68,7 @@ pub fn new_server<U: Suite>(
     now: Instant,
 ) -> Result<Core<U>, AllocError>
     requires fresh { U.Session.is_fresh setup.session }
-    ensures { IfOk result (λ core. (ideal U.Random.stream core) ≡ server_view ⟦<U as Means>⟧.meaning setup.session (U.Random.stream setup.random) (fixed_of Side.Server setup.version setup.local_cid setup.first_cid setup.cid_lifetime setup.preferred setup.local_ip (allowed_by setup.allow_mtud setup.transport) setup.grease_quic_bit (U.Random.stream setup.random)) setup.remote setup.remote_cid setup.validated (allowed_by setup.allow_mtud setup.transport) (U.Control.built setup.control now (first_size (allowed_by setup.allow_mtud setup.transport) None)) now) }
+    ensures { IfOk result (λ core. (ideal U.Random.stream core) ≡ server_view ⟦<U as Means>⟧.meaning setup.session (U.Random.stream setup.random) (fixed_of Side.Server setup.version setup.local_cid setup.first_cid setup.cid_lifetime setup.preferred setup.local_ip (allowed_by setup.allow_mtud setup.transport) setup.grease_quic_bit (U.Random.stream setup.random)) setup.remote setup.remote_cid setup.validated (record { key = setup.token_key; time = setup.time; sent = setup.sent }) (allowed_by setup.allow_mtud setup.transport) (U.Control.built setup.control now (first_size (allowed_by setup.allow_mtud setup.transport) None)) now) }
 {
     let session = SoundSession::new(setup.session);
     let keys = SpaceKeys::new(session.initial_keys(&setup.first_cid, Side::Server));
@@ -81,6 +87,12 @@ pub fn new_server<U: Suite>(
     let kept = PathData::new(now, &transport, congestion, true, None);
     let path = Path::new(setup.remote, setup.remote_cid, setup.validated, kept);
     let paths = Paths::new(path, Some(setup.remote_cid));
+    let issuer = Issuer {
+        key: setup.token_key,
+        time: setup.time,
+        sent: setup.sent,
+    };
+    let tokens = issuer.first_tokens(setup.validated);
     made(
         alloc,
         keys,
@@ -90,6 +102,8 @@ pub fn new_server<U: Suite>(
         setup.random,
         given,
         paths,
+        Some(issuer),
+        tokens,
         &transport,
         now,
     )

@@ -6,6 +6,7 @@ use Rattle.std.specs.Net.Socket.{socket_ip, IsPlainSocket}
 use Rattle.std.specs.declared.net.ip_addr.IpAddr.TheVariants.{V6}
 use Rattle.std.specs.declared.net.ipv6_addr.Ipv6Addr.{Ipv6Addr}
 use Rattle.std.specs.declared.net.socket_addr.SocketAddr.{SocketAddr}
+use Rattle.qc_base.specs.Time.{times}
 use Rattle.qc_base.specs.declared.mask.HeaderMask.{Ghosts as HeaderMaskGhosts}
 use Rattle.qc_base.specs.declared.side.Side.{Side}
 use Rattle.qc_base.specs.declared.side.Side.TheVariants.{Client, Server}
@@ -27,13 +28,18 @@ use Rattle.qc_recovery.specs.Paths.{first_size}
 use Rattle.qc_recovery.specs.TransportValues.{default_transport, TransportValues}
 use Rattle.qc_state.specs.First.{allowed_by, first_view, server_view, fixed_of}
 use Rattle.qc_state.specs.Run.{Run}
-use Rattle.qc_state.specs.Types.{Types, Meaning, meaning}
+use Rattle.qc_state.specs.Tokens.{token_with}
+use Rattle.qc_state.specs.declared.tokens.Issuer.{Issuer}
+use Rattle.qc_state.specs.Types.{TokenMaker, Types, Meaning, meaning}
 use Rattle.qc_state.specs.View.{View, ideal}
 use Rattle.qc_state.specs.declared.input.Input.{Input}
 use Rattle.qc_state.specs.declared.trace.Step.{Step}
 use Rattle.qc_params.specs.declared.params.TransportParameters.{TransportParameters}
 use Rattle.qc_script.specs.declared.settings.Settings.{Settings}
-use Rattle.qc_toy.specs.Cipher.{toy_signature}
+use Rattle.qc_token.specs.declared.time_source.FixedTime.{FixedTime}
+use Rattle.qc_toy.specs.Cipher.{toy_seal, toy_signature, token_key}
+use Rattle.qc_toy.specs.declared.token_keys.ToyAeadKey.{ToyAeadKey}
+use Rattle.qc_toy.specs.declared.token_keys.ToyTokenKey.{ToyTokenKey}
 use Rattle.qc_toy.specs.Settings.{default_settings}
 use Rattle.qc_toy.specs.declared.settings.ToySettings.{ToySettings}
 use Rattle.qc_toy.specs.Start.{session_of}
@@ -52,7 +58,20 @@ pub record IsScriptAddress (address : SocketAddr) : Type 0 where
 
 -- the types of the toy's connections
 abbrev pub toy : Types
-toy = record { S = ToySession; H = ToyHeaderKey; P = ToyPacketKey; D = Unit {0}; I = Unit {0}; C = Reno }
+toy = record {
+  S = ToySession;
+  H = ToyHeaderKey;
+  P = ToyPacketKey;
+  D = Unit {0};
+  I = Unit {0};
+  C = Reno;
+  K = ToyTokenKey;
+  T = FixedTime;
+}
+
+-- what makes their tokens
+abbrev pub toy_token : TokenMaker toy
+toy_token = token_with (λ (key : ToyAeadKey). toy_seal key.bytes 0) (λ (key : ToyTokenKey) (nonce : List ℕ). record { bytes = token_key key.master nonce }) (λ (clock : FixedTime). clock.0)
 
 -- the path's address: the one that a line gives, or the usual one
 abbrev pub IsAddressOf : Option SocketAddr → SocketAddr → Type 0
@@ -75,6 +94,18 @@ first_of s = unwrap_or s.first (replicate 8 3)
 -- so that before its Retry
 abbrev pub orig_of : Settings → List ℕ
 orig_of s = unwrap_or s.orig (first_of s)
+
+-- the master key of a server's tokens
+abbrev pub TOKEN_KEY : ToyTokenKey
+TOKEN_KEY = record { master = replicate 16 0 }
+
+-- the time of its clock, in nanoseconds
+abbrev pub clock_of : Option ℕ → FixedTime
+clock_of seconds = record { 0 = times (unwrap_or seconds 0) 1000000000 }
+
+-- how many tokens it sends
+abbrev pub sent_of : Settings → ℕ
+sent_of s = unwrap_or s.sent 0
 
 -- whether a server's peer has a validated address
 abbrev pub validated_of : Settings → Bool
@@ -159,20 +190,24 @@ pub record IsRunText {t : Types} (m : Meaning t) (first : View t) (inputs : List
 abbrev pub Sessions : Type 1
 Sessions = SessionGhosts ToySession ToyHeaderKey ToyPacketKey (Unit {0}) (Unit {0})
 
+-- what a server makes its tokens of
+abbrev pub issuer_of : Settings → Issuer ToyTokenKey FixedTime
+issuer_of s = record { key = TOKEN_KEY; time = clock_of s.clock; sent = sent_of s }
+
 -- the client that a script sets up: QUIC version 1, ids that don't grow old, and no address to send from. s, h, p and c are what its
 -- session, its keys and its congestion controller mean
 abbrev pub script_client : Sessions → HeaderMaskGhosts ToyHeaderKey → PacketKeyGhosts ToyPacketKey → ControllerGhosts Reno → Settings → SocketAddr → View toy
 script_client s h p c set remote =
-    first_view (meaning s h p c) (client_session set) (words_named set.random)
+    first_view (meaning s h p c toy_token) (client_session set) (words_named set.random)
     (fixed_of Client 1 (local_of set) (remote_of set) None false None (allowed_of set) true (words_named set.random))
     remote (remote_of set) (token_of set) (allowed_of set) (control_of (allowed_of set)) (start_of set)
 
 -- so the server, which announces no preferred address
 abbrev pub script_server : Sessions → HeaderMaskGhosts ToyHeaderKey → PacketKeyGhosts ToyPacketKey → ControllerGhosts Reno → Settings → SocketAddr → View toy
 script_server s h p c set remote =
-    server_view (meaning s h p c) (server_session set) (words_named set.random)
+    server_view (meaning s h p c toy_token) (server_session set) (words_named set.random)
     (fixed_of Server 1 (local_of set) (first_of set) None false None (allowed_of set) true (words_named set.random))
-    remote (remote_of set) (validated_of set) (allowed_of set) (control_of (allowed_of set)) (start_of set)
+    remote (remote_of set) (validated_of set) (issuer_of set) (allowed_of set) (control_of (allowed_of set)) (start_of set)
 
 -- the end of this side
 abbrev pub view_for : Side → Sessions → HeaderMaskGhosts ToyHeaderKey → PacketKeyGhosts ToyPacketKey → ControllerGhosts Reno → Settings → SocketAddr → View toy
@@ -193,7 +228,7 @@ pub record IsScriptEnd (s : Sessions) (h : HeaderMaskGhosts ToyHeaderKey) (p : P
 pub record IsToyRun (s : Sessions) (h : HeaderMaskGhosts ToyHeaderKey) (p : PacketKeyGhosts ToyPacketKey) (c : ControllerGhosts Reno) (set : Settings) (inputs : List Input) (text : List ℕ) : Type 0 where
   pub remote : SocketAddr
   pub address : IsAddressOf set.addr remote
-  pub run : IsRunText (meaning s h p c) (script_view s h p c set remote) inputs text
+  pub run : IsRunText (meaning s h p c toy_token) (script_view s h p c set remote) inputs text
 
 -- the text is that of the steps of the inputs before the first that is refused, and of the line that names it
 pub record IsRefusalText {t : Types} (m : Meaning t) (first : View t) (inputs : List Input) (text : List ℕ) : Type 0 where
@@ -207,7 +242,7 @@ pub record IsRefusalText {t : Types} (m : Meaning t) (first : View t) (inputs : 
 pub record IsToyRefusal (s : Sessions) (h : HeaderMaskGhosts ToyHeaderKey) (p : PacketKeyGhosts ToyPacketKey) (c : ControllerGhosts Reno) (set : Settings) (inputs : List Input) (text : List ℕ) : Type 0 where
   pub remote : SocketAddr
   pub address : IsAddressOf set.addr remote
-  pub refused : IsRefusalText (meaning s h p c) (script_view s h p c set remote) inputs text
+  pub refused : IsRefusalText (meaning s h p c toy_token) (script_view s h p c set remote) inputs text
 
 -- what is told of a run: the text of the whole, or that of a refusal
 abbrev pub IsToldRun : (IsRun IsRefusal : Settings → List Input → List ℕ → Type 0) → Settings → List Input → Told → Type 0

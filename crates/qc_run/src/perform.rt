@@ -4,12 +4,12 @@ ghost use Rattle.std.specs.Prelude.{true, false, replicate, unwrap_or, ◌≡◌
 ghost use Rattle.qc_script.specs.Fields.{IsAddress};
 ghost use Rattle.qc_text.specs.OneText.{IsPlainStart};
 ghost use Rattle.qc_run.specs.Words.{words_named, words_of};
-ghost use Rattle.qc_run.specs.RunText.{mtud_of, IsScriptAddress, IsAddressOf, IsScriptEnd, IsToyRun, IsToyRefusal, IsToldRun, IsRefusalTold, client_session, server_session, parameters_of, reset_token_of, server_parameters_of, settings_of, transport_of, INITIAL_WINDOW, local_of, orig_of, remote_of, first_of, start_of, validated_of, view_for};
+ghost use Rattle.qc_run.specs.RunText.{mtud_of, IsScriptAddress, IsAddressOf, IsScriptEnd, IsToyRun, IsToyRefusal, IsToldRun, IsRefusalTold, client_session, server_session, parameters_of, reset_token_of, server_parameters_of, settings_of, transport_of, INITIAL_WINDOW, local_of, orig_of, remote_of, first_of, start_of, clock_of, sent_of, validated_of, view_for, TOKEN_KEY};
 
 use crate::random::{ScriptRandom, random_of};
 use crate::token::OneToken;
-use qc_base::{ConnectionId, HeaderMask, Instant, ResetToken, Side, VarInt};
-use qc_config::{NoneTokenStore, announced, reset_token};
+use qc_base::{ConnectionId, HeaderMask, Instant, ResetToken, Side, SystemTime, VarInt};
+use qc_config::{FixedTime, NoneTokenStore, announced, reset_token};
 use qc_conn::text::{refused_text, trace_text};
 use qc_conn::{ClientSetup, Connection, DriveError, DriveKind, ServerSetup, drive};
 use qc_crypto::{ClientConfig, PacketKey, ServerConfig, Session};
@@ -20,6 +20,7 @@ use qc_script::{Script, Settings};
 use qc_state::{Input, Suite};
 use qc_toy::{
     ToyClient, ToyHeaderKey, ToyHmacKey, ToyPacketKey, ToyServer, ToySession, ToySettings,
+    ToyTokenKey,
 };
 use std::alloc::{AllocError, Global};
 use std::default::Default;
@@ -37,6 +38,10 @@ impl Suite for Toy {
     type Control = NewRenoConfig;
 
     type Random = ScriptRandom;
+
+    type TokenKey = ToyTokenKey;
+
+    type Time = FixedTime;
 }
 
 /// The id that a line gives, or eight times this byte.
@@ -226,6 +231,15 @@ fn client_setup(alloc: Global, set: &Settings) -> Result<ClientSetup<Toy>, Alloc
     })
 }
 
+/// The clock of a server: it stands still so many seconds after the start of 1970, or at that start; the greatest time that there is, where
+/// they are more.
+fn clock_or(given: Option<u64>) -> FixedTime
+    ensures { result ≡ clock_of given }
+{
+    let seconds = given.unwrap_or(0);
+    FixedTime(SystemTime::from_nanos(seconds.saturating_mul(1_000_000_000)))
+}
+
 /// What the server that these set lines make is made of. Want of memory is the only error.
 #[tactic(auto, using(qc_toy::specs::Start::start_fresh))]
 fn server_setup(alloc: Global, set: &Settings) -> Result<ServerSetup<Toy>, AllocError>
@@ -245,6 +259,9 @@ fn server_setup(alloc: Global, set: &Settings) -> Result<ServerSetup<Toy>, Alloc
     ensures grease { IfOk result (λ setup. setup.grease_quic_bit ≡ true) }
     ensures remote { IfOk result (λ setup. IsAddressOf set.now.addr setup.remote) }
     ensures validated { IfOk result (λ setup. setup.validated ≡ validated_of set.now) }
+    ensures key { IfOk result (λ setup. setup.token_key ≡ TOKEN_KEY) }
+    ensures time { IfOk result (λ setup. setup.time ≡ clock_of set.now.clock) }
+    ensures sent { IfOk result (λ setup. setup.sent ≡ sent_of set.now) }
 {
     let transport = transport_with(set);
     let local_cid = id_or(set.local, 1);
@@ -264,6 +281,9 @@ fn server_setup(alloc: Global, set: &Settings) -> Result<ServerSetup<Toy>, Alloc
         version: 1,
         allow_mtud: set.mtud.unwrap_or(true),
         remote_cid: id_or(set.remote, 2),
+        token_key: ToyTokenKey::new([0; 16]),
+        time: clock_or(set.clock),
+        sent: set.sent.unwrap_or(0),
         migration: true,
         preferred: false,
         validated: set.validated.unwrap_or(false),

@@ -42,6 +42,8 @@ fn a_client_is_called_directly(rt: HostRuntime) -> Result<(), Fail> {
         idle: None,
         mtud: None,
         gso: None,
+        sent: None,
+        clock: None,
     };
     let mut client = script_end(rt.alloc(), &set)?;
     let now = Instant::from_nanos(5);

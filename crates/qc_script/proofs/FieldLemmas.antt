@@ -30,6 +30,10 @@ code_too_great digits code e small great n h is = let same : code ≡ n = decima
 pub port_too_great : (digits : List ℕ) (port : ℕ) → digits ≡ decimal port → port < 2 ^ 64 → 2 ^ 16 ≤ port → (n : ℕ) → n < 2 ^ 16 → digits ≢ decimal n
 port_too_great digits port e small great n h is = let same : port ≡ n = decimal_injective port n small (omega arith) (sym e ∙ is) in omega arith
 
+-- nor is one of 2^32 or more a count
+pub count_too_great : (digits : List ℕ) (count : ℕ) → digits ≡ decimal count → count < 2 ^ 64 → 2 ^ 32 ≤ count → (n : ℕ) → n < 2 ^ 32 → digits ≢ decimal n
+count_too_great digits count e small great n h is = let same : count ≡ n = decimal_injective count n small (omega arith) (sym e ∙ is) in omega arith
+
 -- ---- hex
 
 -- the digit of a value

@@ -13,9 +13,9 @@ use Rattle.qc_state.specs.declared.input.Input.{Input}
 use Rattle.qc_script.specs.declared.settings.RandomWords.{RandomWords}
 use Rattle.qc_script.specs.declared.settings.RandomWords.TheVariants.{Zeros, Seed}
 use Rattle.qc_script.specs.declared.settings.Setting.{Setting}
-use Rattle.qc_script.specs.declared.settings.Setting.TheVariants.{Random, Time, Local, Remote, First, Orig, Retry, Addr, Validated, Token, Secret, LimitInitial, LimitHandshake, LimitData, LimitFailures, Idle, Mtud, Gso}
+use Rattle.qc_script.specs.declared.settings.Setting.TheVariants.{Random, Time, Local, Remote, First, Orig, Retry, Addr, Validated, Token, Secret, LimitInitial, LimitHandshake, LimitData, LimitFailures, Idle, Mtud, Gso, Sent, Clock}
 use Rattle.qc_script.specs.Fields.{hex_field, address_text, flag_text, IsAddress}
-use Rattle.qc_script.specs.Script.{random_text, side_line, input_line, IsRandom, IsSeed, IsId, IsRemote, IsFirst, IsValidated, IsToken, IsSecret}
+use Rattle.qc_script.specs.Script.{random_text, side_line, input_line, IsRandom, IsSeed, IsId, IsRemote, IsFirst, IsValidated, IsToken, IsSecret, IsSent, IsClock}
 use Rattle.qc_script.specs.Items.{setting_line, IsSetting, IsNextSetting, IsSettingRead, IsOfTransport, IsTransportRead}
 use Rattle.qc_script.proofs.FieldLemmas.{hex_field_injective, address_injective}
 use Rattle.qc_script.proofs.LineLemmas.{no_set}
@@ -68,6 +68,8 @@ kind (LimitFailures packets) = 641
 kind (Idle limit) = 526
 kind (Mtud allowed) = 568
 kind (Gso allowed) = 543
+kind (Sent count) = 551
+kind (Clock seconds) = 528
 
 kind_at : (x : Setting) → mark (setting_line x) ≡ kind x
 unfolding setting_line
@@ -89,6 +91,8 @@ kind_at (LimitFailures packets) = refl
 kind_at (Idle limit) = refl
 kind_at (Mtud allowed) = refl
 kind_at (Gso allowed) = refl
+kind_at (Sent count) = refl
+kind_at (Clock seconds) = refl
 
 kind_of_text : (side : Side) (text : List ℕ) (x : Setting) → IsNextSetting side text x → mark (text ++ 10 ∷ []) ≡ kind x
 kind_of_text side text x h = ap mark h.spelled ∙ kind_at x
@@ -130,6 +134,14 @@ addr_next field address e h side = record { spelled = spelled_on (codes "set add
 pub validated_next : (field : List ℕ) (validated : Bool) (side : Side) → field ≡ flag_text validated → IsValidated side validated → IsNextSetting side (codes "set validated " ++ field) (Validated validated)
 unfolding setting_line
 validated_next field validated side e h = record { spelled = spelled_on (codes "set validated ") field (flag_text validated) e; within = h }
+
+pub sent_next : (field : List ℕ) (count : ℕ) (side : Side) → field ≡ decimal count → IsSent side count → IsNextSetting side (codes "set sent " ++ field) (Sent count)
+unfolding setting_line
+sent_next field count side e h = record { spelled = spelled_on (codes "set sent ") field (decimal count) e; within = h }
+
+pub clock_next : (field : List ℕ) (seconds : ℕ) (side : Side) → field ≡ decimal seconds → IsClock side seconds → IsNextSetting side (codes "set clock " ++ field) (Clock seconds)
+unfolding setting_line
+clock_next field seconds side e h = record { spelled = spelled_on (codes "set clock ") field (decimal seconds) e; within = h }
 
 pub token_next : (field bytes : List ℕ) (side : Side) → field ≡ hex_field bytes → IsToken side bytes → IsNextSetting side (codes "set token " ++ field) (Token bytes)
 unfolding setting_line
@@ -213,6 +225,16 @@ unfolding setting_line
 no_validated field side none (Validated validated) h = none validated h.within (field_same (codes "set validated ") field (flag_text validated) h.spelled)
 no_validated field side none x h = let e : 549 ≡ kind x = kind_of_text side (codes "set validated " ++ field) x h in omega (arith, e)
 
+pub no_sent : (field : List ℕ) (side : Side) → ((count : ℕ) → IsSent side count → field ≢ decimal count) → (x : Setting) → IsNextSetting side (codes "set sent " ++ field) x → ⊥
+unfolding setting_line
+no_sent field side none (Sent count) h = none count h.within (field_same (codes "set sent ") field (decimal count) h.spelled)
+no_sent field side none x h = let e : 551 ≡ kind x = kind_of_text side (codes "set sent " ++ field) x h in omega (arith, e)
+
+pub no_clock : (field : List ℕ) (side : Side) → ((seconds : ℕ) → IsClock side seconds → field ≢ decimal seconds) → (x : Setting) → IsNextSetting side (codes "set clock " ++ field) x → ⊥
+unfolding setting_line
+no_clock field side none (Clock seconds) h = none seconds h.within (field_same (codes "set clock ") field (decimal seconds) h.spelled)
+no_clock field side none x h = let e : 528 ≡ kind x = kind_of_text side (codes "set clock " ++ field) x h in omega (arith, e)
+
 pub no_token : (field : List ℕ) (side : Side) → ((bytes : List ℕ) → IsToken side bytes → field ≢ hex_field bytes) → (x : Setting) → IsNextSetting side (codes "set token " ++ field) x → ⊥
 unfolding setting_line
 no_token field side none (Token bytes) h = none bytes h.within (field_same (codes "set token ") field (hex_field bytes) h.spelled)
@@ -276,36 +298,40 @@ transport_read side text (Some x) h = h
 no_set_word : (text : List ℕ) → ((rest : List ℕ) → text ≢ codes "set random " ++ rest) → ((rest : List ℕ) → text ≢ codes "set time " ++ rest) → ((rest : List ℕ) → text ≢ codes "set local " ++ rest) → ((rest : List ℕ) → text ≢ codes "set remote " ++ rest)
     → ((rest : List ℕ) → text ≢ codes "set first " ++ rest) → ((rest : List ℕ) → text ≢ codes "set addr " ++ rest) → ((rest : List ℕ) → text ≢ codes "set token " ++ rest) → ((rest : List ℕ) → text ≢ codes "set secret " ++ rest)
     → ((rest : List ℕ) → text ≢ codes "set limit_initial " ++ rest) → ((rest : List ℕ) → text ≢ codes "set limit_handshake " ++ rest) → ((rest : List ℕ) → text ≢ codes "set limit_data " ++ rest) → ((rest : List ℕ) → text ≢ codes "set limit_failures " ++ rest)
-    → ((rest : List ℕ) → text ≢ codes "set orig " ++ rest) → ((rest : List ℕ) → text ≢ codes "set retry " ++ rest) → ((rest : List ℕ) → text ≢ codes "set validated " ++ rest) → ((side : Side) (x : Setting) → IsOfTransport x → IsNextSetting side text x → ⊥)
+    → ((rest : List ℕ) → text ≢ codes "set orig " ++ rest) → ((rest : List ℕ) → text ≢ codes "set retry " ++ rest) → ((rest : List ℕ) → text ≢ codes "set validated " ++ rest) → ((rest : List ℕ) → text ≢ codes "set sent " ++ rest)
+    → ((rest : List ℕ) → text ≢ codes "set clock " ++ rest) → ((side : Side) (x : Setting) → IsOfTransport x → IsNextSetting side text x → ⊥)
     → (side : Side) (x : Setting) → IsNextSetting side text x → ⊥
 unfolding setting_line
-no_set_word text randoms times locals remotes firsts addrs tokens secrets initials handshakes datas failures origs retries validateds transports side (Random words) h = randoms (random_text words) (words_and_field (codes "set random ") text (random_text words) h.spelled)
-no_set_word text randoms times locals remotes firsts addrs tokens secrets initials handshakes datas failures origs retries validateds transports side (Time now) h = times (decimal now) (words_and_field (codes "set time ") text (decimal now) h.spelled)
-no_set_word text randoms times locals remotes firsts addrs tokens secrets initials handshakes datas failures origs retries validateds transports side (Local id) h = locals (hex_field id) (words_and_field (codes "set local ") text (hex_field id) h.spelled)
-no_set_word text randoms times locals remotes firsts addrs tokens secrets initials handshakes datas failures origs retries validateds transports side (Remote id) h = remotes (hex_field id) (words_and_field (codes "set remote ") text (hex_field id) h.spelled)
-no_set_word text randoms times locals remotes firsts addrs tokens secrets initials handshakes datas failures origs retries validateds transports side (First id) h = firsts (hex_field id) (words_and_field (codes "set first ") text (hex_field id) h.spelled)
-no_set_word text randoms times locals remotes firsts addrs tokens secrets initials handshakes datas failures origs retries validateds transports side (Orig id) h = origs (hex_field id) (words_and_field (codes "set orig ") text (hex_field id) h.spelled)
-no_set_word text randoms times locals remotes firsts addrs tokens secrets initials handshakes datas failures origs retries validateds transports side (Retry id) h = retries (hex_field id) (words_and_field (codes "set retry ") text (hex_field id) h.spelled)
-no_set_word text randoms times locals remotes firsts addrs tokens secrets initials handshakes datas failures origs retries validateds transports side (Addr address) h = addrs (address_text address) (words_and_field (codes "set addr ") text (address_text address) h.spelled)
-no_set_word text randoms times locals remotes firsts addrs tokens secrets initials handshakes datas failures origs retries validateds transports side (Validated validated) h = validateds (flag_text validated) (words_and_field (codes "set validated ") text (flag_text validated) h.spelled)
-no_set_word text randoms times locals remotes firsts addrs tokens secrets initials handshakes datas failures origs retries validateds transports side (Token bytes) h = tokens (hex_field bytes) (words_and_field (codes "set token ") text (hex_field bytes) h.spelled)
-no_set_word text randoms times locals remotes firsts addrs tokens secrets initials handshakes datas failures origs retries validateds transports side (Secret bytes) h = secrets (hex_field bytes) (words_and_field (codes "set secret ") text (hex_field bytes) h.spelled)
-no_set_word text randoms times locals remotes firsts addrs tokens secrets initials handshakes datas failures origs retries validateds transports side (LimitInitial packets) h = initials (decimal packets) (words_and_field (codes "set limit_initial ") text (decimal packets) h.spelled)
-no_set_word text randoms times locals remotes firsts addrs tokens secrets initials handshakes datas failures origs retries validateds transports side (LimitHandshake packets) h = handshakes (decimal packets) (words_and_field (codes "set limit_handshake ") text (decimal packets) h.spelled)
-no_set_word text randoms times locals remotes firsts addrs tokens secrets initials handshakes datas failures origs retries validateds transports side (LimitData packets) h = datas (decimal packets) (words_and_field (codes "set limit_data ") text (decimal packets) h.spelled)
-no_set_word text randoms times locals remotes firsts addrs tokens secrets initials handshakes datas failures origs retries validateds transports side (LimitFailures packets) h = failures (decimal packets) (words_and_field (codes "set limit_failures ") text (decimal packets) h.spelled)
-no_set_word text randoms times locals remotes firsts addrs tokens secrets initials handshakes datas failures origs retries validateds transports side (Idle limit) h = transports side (Idle limit) tt h
-no_set_word text randoms times locals remotes firsts addrs tokens secrets initials handshakes datas failures origs retries validateds transports side (Mtud allowed) h = transports side (Mtud allowed) tt h
-no_set_word text randoms times locals remotes firsts addrs tokens secrets initials handshakes datas failures origs retries validateds transports side (Gso allowed) h = transports side (Gso allowed) tt h
+no_set_word text randoms times locals remotes firsts addrs tokens secrets initials handshakes datas failures origs retries validateds sents clocks transports side (Random words) h = randoms (random_text words) (words_and_field (codes "set random ") text (random_text words) h.spelled)
+no_set_word text randoms times locals remotes firsts addrs tokens secrets initials handshakes datas failures origs retries validateds sents clocks transports side (Time now) h = times (decimal now) (words_and_field (codes "set time ") text (decimal now) h.spelled)
+no_set_word text randoms times locals remotes firsts addrs tokens secrets initials handshakes datas failures origs retries validateds sents clocks transports side (Local id) h = locals (hex_field id) (words_and_field (codes "set local ") text (hex_field id) h.spelled)
+no_set_word text randoms times locals remotes firsts addrs tokens secrets initials handshakes datas failures origs retries validateds sents clocks transports side (Remote id) h = remotes (hex_field id) (words_and_field (codes "set remote ") text (hex_field id) h.spelled)
+no_set_word text randoms times locals remotes firsts addrs tokens secrets initials handshakes datas failures origs retries validateds sents clocks transports side (First id) h = firsts (hex_field id) (words_and_field (codes "set first ") text (hex_field id) h.spelled)
+no_set_word text randoms times locals remotes firsts addrs tokens secrets initials handshakes datas failures origs retries validateds sents clocks transports side (Orig id) h = origs (hex_field id) (words_and_field (codes "set orig ") text (hex_field id) h.spelled)
+no_set_word text randoms times locals remotes firsts addrs tokens secrets initials handshakes datas failures origs retries validateds sents clocks transports side (Retry id) h = retries (hex_field id) (words_and_field (codes "set retry ") text (hex_field id) h.spelled)
+no_set_word text randoms times locals remotes firsts addrs tokens secrets initials handshakes datas failures origs retries validateds sents clocks transports side (Addr address) h = addrs (address_text address) (words_and_field (codes "set addr ") text (address_text address) h.spelled)
+no_set_word text randoms times locals remotes firsts addrs tokens secrets initials handshakes datas failures origs retries validateds sents clocks transports side (Validated validated) h = validateds (flag_text validated) (words_and_field (codes "set validated ") text (flag_text validated) h.spelled)
+no_set_word text randoms times locals remotes firsts addrs tokens secrets initials handshakes datas failures origs retries validateds sents clocks transports side (Token bytes) h = tokens (hex_field bytes) (words_and_field (codes "set token ") text (hex_field bytes) h.spelled)
+no_set_word text randoms times locals remotes firsts addrs tokens secrets initials handshakes datas failures origs retries validateds sents clocks transports side (Secret bytes) h = secrets (hex_field bytes) (words_and_field (codes "set secret ") text (hex_field bytes) h.spelled)
+no_set_word text randoms times locals remotes firsts addrs tokens secrets initials handshakes datas failures origs retries validateds sents clocks transports side (LimitInitial packets) h = initials (decimal packets) (words_and_field (codes "set limit_initial ") text (decimal packets) h.spelled)
+no_set_word text randoms times locals remotes firsts addrs tokens secrets initials handshakes datas failures origs retries validateds sents clocks transports side (LimitHandshake packets) h = handshakes (decimal packets) (words_and_field (codes "set limit_handshake ") text (decimal packets) h.spelled)
+no_set_word text randoms times locals remotes firsts addrs tokens secrets initials handshakes datas failures origs retries validateds sents clocks transports side (LimitData packets) h = datas (decimal packets) (words_and_field (codes "set limit_data ") text (decimal packets) h.spelled)
+no_set_word text randoms times locals remotes firsts addrs tokens secrets initials handshakes datas failures origs retries validateds sents clocks transports side (LimitFailures packets) h = failures (decimal packets) (words_and_field (codes "set limit_failures ") text (decimal packets) h.spelled)
+no_set_word text randoms times locals remotes firsts addrs tokens secrets initials handshakes datas failures origs retries validateds sents clocks transports side (Idle limit) h = transports side (Idle limit) tt h
+no_set_word text randoms times locals remotes firsts addrs tokens secrets initials handshakes datas failures origs retries validateds sents clocks transports side (Mtud allowed) h = transports side (Mtud allowed) tt h
+no_set_word text randoms times locals remotes firsts addrs tokens secrets initials handshakes datas failures origs retries validateds sents clocks transports side (Gso allowed) h = transports side (Gso allowed) tt h
+no_set_word text randoms times locals remotes firsts addrs tokens secrets initials handshakes datas failures origs retries validateds sents clocks transports side (Sent count) h = sents (decimal count) (words_and_field (codes "set sent ") text (decimal count) h.spelled)
+no_set_word text randoms times locals remotes firsts addrs tokens secrets initials handshakes datas failures origs retries validateds sents clocks transports side (Clock seconds) h = clocks (decimal seconds) (words_and_field (codes "set clock ") text (decimal seconds) h.spelled)
 
 -- behind the other words the reader of the transport's settings reads each setting
 pub last_read : (text : List ℕ) → ((rest : List ℕ) → text ≢ codes "set random " ++ rest) → ((rest : List ℕ) → text ≢ codes "set time " ++ rest) → ((rest : List ℕ) → text ≢ codes "set local " ++ rest) → ((rest : List ℕ) → text ≢ codes "set remote " ++ rest)
     → ((rest : List ℕ) → text ≢ codes "set first " ++ rest) → ((rest : List ℕ) → text ≢ codes "set addr " ++ rest) → ((rest : List ℕ) → text ≢ codes "set token " ++ rest) → ((rest : List ℕ) → text ≢ codes "set secret " ++ rest)
     → ((rest : List ℕ) → text ≢ codes "set limit_initial " ++ rest) → ((rest : List ℕ) → text ≢ codes "set limit_handshake " ++ rest) → ((rest : List ℕ) → text ≢ codes "set limit_data " ++ rest) → ((rest : List ℕ) → text ≢ codes "set limit_failures " ++ rest)
-    → ((rest : List ℕ) → text ≢ codes "set orig " ++ rest) → ((rest : List ℕ) → text ≢ codes "set retry " ++ rest) → ((rest : List ℕ) → text ≢ codes "set validated " ++ rest) → (r : Option Setting) → ((side : Side) → IsTransportRead side text r)
+    → ((rest : List ℕ) → text ≢ codes "set orig " ++ rest) → ((rest : List ℕ) → text ≢ codes "set retry " ++ rest) → ((rest : List ℕ) → text ≢ codes "set validated " ++ rest) → ((rest : List ℕ) → text ≢ codes "set sent " ++ rest)
+    → ((rest : List ℕ) → text ≢ codes "set clock " ++ rest) → (r : Option Setting) → ((side : Side) → IsTransportRead side text r)
     → (side : Side) → IsSettingRead side text r
-last_read text randoms times locals remotes firsts addrs tokens secrets initials handshakes datas failures origs retries validateds None h side = no_set_word text randoms times locals remotes firsts addrs tokens secrets initials handshakes datas failures origs retries validateds h side
-last_read text randoms times locals remotes firsts addrs tokens secrets initials handshakes datas failures origs retries validateds (Some x) h side = h side
+last_read text randoms times locals remotes firsts addrs tokens secrets initials handshakes datas failures origs retries validateds sents clocks None h side = no_set_word text randoms times locals remotes firsts addrs tokens secrets initials handshakes datas failures origs retries validateds sents clocks h side
+last_read text randoms times locals remotes firsts addrs tokens secrets initials handshakes datas failures origs retries validateds sents clocks (Some x) h side = h side
 
 -- ---- lines and settings
 
@@ -362,6 +388,15 @@ flag_injective true true e = refl
 kinds : (x y : Setting) → setting_line x ≡ setting_line y → kind x ≡ kind y
 kinds x y e = sym (kind_at x) ∙ ap mark e ∙ kind_at y
 
+-- a number of tokens, and a time of a clock, have 64 bits
+sent_small : (side : Side) (n : ℕ) → IsSent side n → n < 2 ^ 64
+sent_small Client n h = absurd h
+sent_small Server n h = omega (arith, h)
+
+clock_small : (side : Side) (n : ℕ) → IsClock side n → n < 2 ^ 64
+clock_small Client n h = absurd h
+clock_small Server n h = h
+
 -- a setting's line is that of no other setting
 pub setting_line_injective : (side : Side) (x y : Setting) → IsSetting side x → IsSetting side y → setting_line x ≡ setting_line y → x ≡ y
 unfolding setting_line
@@ -378,6 +413,8 @@ setting_line_injective side (Retry id) (Retry id') h k e =
     ap Retry (hex_field_injective id id' (first_bytes side id h).0 (first_bytes side id' k).0 (fields_same_behind (codes "set retry ") (hex_field id) (hex_field id') e))
 setting_line_injective side (Addr a) (Addr a') h k e = ap Addr (address_injective a a' h k (fields_same_behind (codes "set addr ") (address_text a) (address_text a') e))
 setting_line_injective side (Validated a) (Validated b) h k e = ap Validated (flag_injective a b (fields_same_behind (codes "set validated ") (flag_text a) (flag_text b) e))
+setting_line_injective side (Sent a) (Sent b) h k e = ap Sent (decimal_injective a b (sent_small side a h) (sent_small side b k) (fields_same_behind (codes "set sent ") (decimal a) (decimal b) e))
+setting_line_injective side (Clock a) (Clock b) h k e = ap Clock (decimal_injective a b (clock_small side a h) (clock_small side b k) (fields_same_behind (codes "set clock ") (decimal a) (decimal b) e))
 setting_line_injective side (Token bytes) (Token bytes') h k e =
     ap Token (hex_field_injective bytes bytes' (token_bytes side bytes h) (token_bytes side bytes' k) (fields_same_behind (codes "set token ") (hex_field bytes) (hex_field bytes') e))
 setting_line_injective side (Secret bytes) (Secret bytes') h k e = ap Secret (hex_field_injective bytes bytes' h.0 k.0 (fields_same_behind (codes "set secret ") (hex_field bytes) (hex_field bytes') e))
@@ -411,6 +448,8 @@ setting_word (LimitFailures packets) = refl
 setting_word (Idle limit) = refl
 setting_word (Mtud allowed) = refl
 setting_word (Gso allowed) = refl
+setting_word (Sent count) = refl
+setting_word (Clock seconds) = refl
 
 pub setting_no_input : (x : Setting) (i : Input) → setting_line x ≢ input_line i
 setting_no_input x i e = no_set i (ap (λ (z : List ℕ). get_or z 0 0 + get_or z 3 0) (sym e) ∙ setting_word x)
@@ -436,6 +475,8 @@ setting_ends (LimitFailures packets) = (codes "set limit_failures " ++ decimal p
 setting_ends (Idle limit) = (codes "set idle " ++ decimal limit, sym (append_assoc (codes "set idle ") (decimal limit) (10 ∷ [])))
 setting_ends (Mtud allowed) = (codes "set mtud " ++ flag_text allowed, sym (append_assoc (codes "set mtud ") (flag_text allowed) (10 ∷ [])))
 setting_ends (Gso allowed) = (codes "set gso " ++ flag_text allowed, sym (append_assoc (codes "set gso ") (flag_text allowed) (10 ∷ [])))
+setting_ends (Sent count) = (codes "set sent " ++ decimal count, sym (append_assoc (codes "set sent ") (decimal count) (10 ∷ [])))
+setting_ends (Clock seconds) = (codes "set clock " ++ decimal seconds, sym (append_assoc (codes "set clock ") (decimal seconds) (10 ∷ [])))
 
 -- a side's line is that of no other side
 pub side_line_injective : (a b : Side) → side_line a ≡ side_line b → a ≡ b

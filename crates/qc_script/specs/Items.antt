@@ -5,11 +5,11 @@ use Rattle.qc_base.specs.declared.side.Side.{Side}
 use Rattle.qc_state.specs.declared.input.Input.{Input}
 use Rattle.qc_script.specs.declared.settings.Settings.{Settings}
 use Rattle.qc_script.specs.declared.settings.Setting.{Setting}
-use Rattle.qc_script.specs.declared.settings.Setting.TheVariants.{Random, Time, Local, Remote, First, Addr, Token, Secret, LimitInitial, LimitHandshake, LimitData, LimitFailures, Idle, Mtud, Gso, Orig, Retry, Validated}
+use Rattle.qc_script.specs.declared.settings.Setting.TheVariants.{Random, Time, Local, Remote, First, Addr, Token, Secret, LimitInitial, LimitHandshake, LimitData, LimitFailures, Idle, Mtud, Gso, Orig, Retry, Validated, Sent, Clock}
 use Rattle.qc_script.specs.declared.items.Item.{Item}
 use Rattle.qc_script.specs.declared.items.Item.TheVariants as It
 use Rattle.qc_script.specs.Fields.{hex_field, address_text, flag_text, IsAddress}
-use Rattle.qc_script.specs.Script.{random_text, IsRandom, IsId, IsRemote, IsFirst, IsValidated, IsToken, IsSecret, IsWithin, input_line}
+use Rattle.qc_script.specs.Script.{random_text, IsRandom, IsId, IsRemote, IsFirst, IsValidated, IsSent, IsClock, IsToken, IsSecret, IsWithin, input_line}
 
 -- the line of a setting
 unfoldable pub setting_line : Setting → List ℕ
@@ -31,6 +31,8 @@ setting_line (LimitFailures packets) = codes "set limit_failures " ++ (decimal p
 setting_line (Idle limit) = codes "set idle " ++ (decimal limit ++ 10 ∷ [])
 setting_line (Mtud allowed) = codes "set mtud " ++ (flag_text allowed ++ 10 ∷ [])
 setting_line (Gso allowed) = codes "set gso " ++ (flag_text allowed ++ 10 ∷ [])
+setting_line (Sent count) = codes "set sent " ++ (decimal count ++ 10 ∷ [])
+setting_line (Clock seconds) = codes "set clock " ++ (decimal seconds ++ 10 ∷ [])
 
 -- what a setting says lies within its bounds on this side
 abbrev pub IsSetting : Side → Setting → Type 0
@@ -52,6 +54,8 @@ IsSetting side (LimitFailures packets) = packets < 2 ^ 64
 IsSetting side (Idle limit) = limit < 2 ^ 62
 IsSetting side (Mtud allowed) = Unit {0}
 IsSetting side (Gso allowed) = Unit {0}
+IsSetting side (Sent count) = IsSent side count
+IsSetting side (Clock seconds) = IsClock side seconds
 
 -- this text and LF is the line of this setting
 pub record IsNextSetting (side : Side) (text : List ℕ) (setting : Setting) : Type 0 where
@@ -95,6 +99,8 @@ setting_place (LimitFailures packets) = 15
 setting_place (Idle limit) = 16
 setting_place (Mtud allowed) = 17
 setting_place (Gso allowed) = 18
+setting_place (Sent count) = 19
+setting_place (Clock seconds) = 20
 
 -- the settings with this one among them
 abbrev pub with_setting : Settings → Setting → Settings
@@ -116,10 +122,12 @@ with_setting s (LimitFailures packets) = record s { limit_failures = Some packet
 with_setting s (Idle limit) = record s { idle = Some limit }
 with_setting s (Mtud allowed) = record s { mtud = Some allowed }
 with_setting s (Gso allowed) = record s { gso = Some allowed }
+with_setting s (Sent count) = record s { sent = Some count }
+with_setting s (Clock seconds) = record s { clock = Some seconds }
 
 -- what a script says whose one line names this side
 abbrev pub side_alone : Side → Settings
-side_alone side = record { side = side; random = None; time = None; local = None; remote = None; first = None; orig = None; retry = None; addr = None; validated = None; token = None; secret = None; limit_initial = None; limit_handshake = None; limit_data = None; limit_failures = None; idle = None; mtud = None; gso = None }
+side_alone side = record { side = side; random = None; time = None; local = None; remote = None; first = None; orig = None; retry = None; addr = None; validated = None; token = None; secret = None; limit_initial = None; limit_handshake = None; limit_data = None; limit_failures = None; idle = None; mtud = None; gso = None; sent = None; clock = None }
 
 -- the line of an item
 abbrev pub item_line : Item → List ℕ
@@ -134,7 +142,7 @@ IsItem side (It.Input input) = IsWithin input
 -- the place of an item's line: an input's is that behind all set lines
 abbrev pub item_place : Item → ℕ
 item_place (It.Set setting) = setting_place setting
-item_place (It.Input input) = 19
+item_place (It.Input input) = 21
 
 -- the item's line may follow one of place `before`: a set line follows one of a lesser place, and an input any line
 abbrev pub Follows : (before : ℕ) → Item → Type 0

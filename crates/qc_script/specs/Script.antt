@@ -22,6 +22,8 @@
 --     set idle N        this end's limit on idle time in milliseconds; 0 is none (30000)
 --     set mtud F        whether larger datagrams are looked for: `0` or `1` (1)
 --     set gso F         whether the datagrams of a transmit may stand behind each other: `0`, a transmit has at most one, or `1` (1)
+--     set sent N        on a server how many tokens it sends its client for later connections (0)
+--     set clock N       on a server its clock, which stands still: N seconds after the start of 1970 (0)
 -- An input line is
 --     datagram T A E H  a datagram H came at time T from the address A with the mark E of congestion
 --     timeout T         timers may have come at time T
@@ -113,7 +115,9 @@ set_lines s =
     ++ (line_if (codes "set limit_failures ") decimal s.limit_failures
     ++ (line_if (codes "set idle ") decimal s.idle
     ++ (line_if (codes "set mtud ") flag_text s.mtud
-    ++ line_if (codes "set gso ") flag_text s.gso)))))))))))))))))
+    ++ (line_if (codes "set gso ") flag_text s.gso
+    ++ (line_if (codes "set sent ") decimal s.sent
+    ++ line_if (codes "set clock ") decimal s.clock)))))))))))))))))))
 
 -- a seed has 32 bytes
 abbrev pub IsSeed : List ℕ → Type 0
@@ -143,6 +147,15 @@ abbrev pub IsValidated : Side → Bool → Type 0
 IsValidated Client validated = ⊥
 IsValidated Server validated = Unit {0}
 
+-- only a server is told how many tokens it sends, in 32 bits, and the time of its clock in seconds
+abbrev pub IsSent : Side → ℕ → Type 0
+IsSent Client count = ⊥
+IsSent Server count = count < 2 ^ 32
+
+abbrev pub IsClock : Side → ℕ → Type 0
+IsClock Client seconds = ⊥
+IsClock Server seconds = seconds < 2 ^ 64
+
 -- only a client is told a token
 abbrev pub IsToken : Side → List ℕ → Type 0
 IsToken Client bytes = IsBytes bytes
@@ -170,6 +183,8 @@ pub record AreSettings (s : Settings) : Type 0 where
   pub limit_data : IfSome s.limit_data (λ n. n < 2 ^ 64)
   pub limit_failures : IfSome s.limit_failures (λ n. n < 2 ^ 64)
   pub idle : IfSome s.idle (λ n. n < 2 ^ 62)
+  pub sent : IfSome s.sent (IsSent s.side)
+  pub clock : IfSome s.clock (IsClock s.side)
 
 -- an id that an endpoint gives: its sequence number, its bytes and its token for a stateless reset
 unfoldable pub issued_text : IssuedCid → List ℕ

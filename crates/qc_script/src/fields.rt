@@ -64,6 +64,18 @@ pub fn read_port(digits: &[u8]) -> Option<u16>
     }
 }
 
+/// The count that these digits are the decimal of, which is below 2^32.
+pub fn read_count(digits: &[u8]) -> Option<u32>
+    ensures { MatchOption result ((n : ℕ) → n < 2 ^ 32 → digits.now ≢ decimal n) (λ n. digits.now ≡ decimal n) }
+{
+    let count = read_number(digits)?;
+    if count < 4_294_967_296 {
+        Some(count as u32)
+    } else {
+        None
+    }
+}
+
 /// The direction that a field names.
 pub fn read_dir(field: &[u8]) -> Option<Dir>
     ensures { MatchOption result ((dir : Dir) → field.now ≢ dir_text dir) (λ dir. field.now ≡ dir_text dir) }

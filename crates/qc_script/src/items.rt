@@ -26,7 +26,7 @@ impl Item {
     {
         match self {
             Item::Set(setting) => setting.place(),
-            Item::Input(_) => 19,
+            Item::Input(_) => 21,
         }
     }
 }

@@ -4,10 +4,10 @@
 //! where S is `client` or `server`, and then at most one each of `set random W`, `set time N`, `set local HEX`,
 //! `set remote HEX`, `set first HEX`, `set orig HEX`, `set retry HEX`, `set addr A`, `set validated F`, `set token HEX`,
 //! `set secret HEX`, `set limit_initial N`, `set limit_handshake N`, `set limit_data N`, `set limit_failures N`, `set idle N`,
-//! `set mtud F` and `set gso F`. W is `zero` or the 32 bytes of a seed in hex. An id
+//! `set mtud F`, `set gso F`, `set sent N` and `set clock N`. W is `zero` or the 32 bytes of a seed in hex. An id
 //! has at most 20 bytes; on a client the remote one has 8 at least (RFC 9000, section 7.2). Only a server has a first id, one
 //! from before its Retry and one of its Retry (RFC 9000, section 17.2.5), and is told whether the peer's address is validated
-//! (RFC 9000, section 8.1).
+//! (RFC 9000, section 8.1), how many tokens it sends, below 2^32, and the time of its clock in seconds.
 //! Only a client has a token (RFC 9000, section 8.1). A secret has 5 bytes. A key of the Initial, the Handshake or the 1-RTT packets may seal as many
 //! packets as its limit says, and as many packets may fail to open as `limit_failures` says (RFC 9001, section 6.6). A
 //! limit on idle time is in milliseconds and below 2^62 (RFC 9000, section 10.1). F is `0` or `1`: of `gso` it is `0` where a

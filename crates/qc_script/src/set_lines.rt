@@ -7,7 +7,7 @@ ghost use Rattle.qc_script.specs.declared.settings.RandomWords.{RandomWords};
 ghost use Rattle.std.specs.Prelude.{◌≡◌, ◌≢◌, ℕ, List, ◌++◌, codes, IfOk, MatchOption};
 
 use crate::address::read_address;
-use crate::fields::{after_word, read_code, read_flag, read_hex, read_number};
+use crate::fields::{after_word, read_code, read_count, read_flag, read_hex, read_number};
 use crate::settings::{RandomWords, Setting};
 use qc_base::{ConnectionId, Instant, Side};
 use std::alloc::{AllocError, Global};
@@ -194,6 +194,32 @@ fn validated_line(side: Side, field: &[u8]) -> Option<Setting>
     }
 }
 
+/// What a line sets that gives how many tokens a server sends.
+fn sent_line(side: Side, digits: &[u8]) -> Option<Setting>
+    ensures { IsSettingRead side (codes "set sent " ++ digits.now) result }
+{
+    match side {
+        Side::Client => None,
+        Side::Server => match read_count(digits) {
+            Some(count) => Some(Setting::Sent(count)),
+            None => None,
+        },
+    }
+}
+
+/// What a line sets that gives the time of a server's clock.
+fn clock_line(side: Side, digits: &[u8]) -> Option<Setting>
+    ensures { IsSettingRead side (codes "set clock " ++ digits.now) result }
+{
+    match side {
+        Side::Client => None,
+        Side::Server => match read_number(digits) {
+            Some(seconds) => Some(Setting::Clock(seconds)),
+            None => None,
+        },
+    }
+}
+
 /// What a line sets that gives the token.
 fn token_line(alloc: Global, side: Side, field: &[u8]) -> Result<Option<Setting>, AllocError>
     ensures { IfOk result (IsSettingRead side (codes "set token " ++ field.now)) }
@@ -351,6 +377,12 @@ pub fn read_setting(alloc: Global, side: Side, text: &[u8]) -> Result<Option<Set
     }
     if let Some(field) = after_word(text, b"set validated ") {
         return Ok(validated_line(side, field));
+    }
+    if let Some(digits) = after_word(text, b"set sent ") {
+        return Ok(sent_line(side, digits));
+    }
+    if let Some(digits) = after_word(text, b"set clock ") {
+        return Ok(clock_line(side, digits));
     }
     Ok(transport_line(text))
 }

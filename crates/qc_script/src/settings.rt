@@ -57,6 +57,10 @@ pub struct Settings {
     pub mtud: Option<bool>,
     /// Whether the datagrams of a transmit may stand behind each other; where they may not, a transmit has at most one.
     pub gso: Option<bool>,
+    /// On a server how many tokens it sends its client for later connections (RFC 9000, 8.1.3); none on a client.
+    pub sent: Option<u32>,
+    /// On a server the time of its clock in seconds since the start of 1970; none on a client.
+    pub clock: Option<u64>,
 }
 
 /// What one set line behind the first says.
@@ -98,6 +102,10 @@ pub enum Setting {
     Mtud(bool),
     /// What `Settings::gso` is.
     Gso(bool),
+    /// What `Settings::sent` is.
+    Sent(u32),
+    /// What `Settings::clock` is.
+    Clock(u64),
 }
 
 impl Setting {
@@ -124,6 +132,8 @@ impl Setting {
             Setting::Idle(_) => 16,
             Setting::Mtud(_) => 17,
             Setting::Gso(_) => 18,
+            Setting::Sent(_) => 19,
+            Setting::Clock(_) => 20,
         }
     }
 }
@@ -153,6 +163,8 @@ impl Settings {
             idle: None,
             mtud: None,
             gso: None,
+            sent: None,
+            clock: None,
         }
     }
 
@@ -179,6 +191,8 @@ impl Settings {
             Setting::Idle(limit) => self.idle = Some(limit),
             Setting::Mtud(allowed) => self.mtud = Some(allowed),
             Setting::Gso(allowed) => self.gso = Some(allowed),
+            Setting::Sent(count) => self.sent = Some(count),
+            Setting::Clock(seconds) => self.clock = Some(seconds),
         }
     }
 }

@@ -21,6 +21,7 @@ use Rattle.qc_state.specs.Numbers.{next_number, acked_number, coming_number, is_
 use Rattle.qc_state.specs.declared.numbers.Numbers.{Numbers}
 use Rattle.qc_state.specs.Batches.{batch_opened}
 use Rattle.qc_state.specs.Sending.{is_past_limit, is_used_up, is_key_used_up, is_token_too_long, header_in, room_of, skipped_after, begun_after, begun_batch, MayBegin, MayStand}
+use Rattle.qc_state.specs.Setup.{packet_drawn}
 use Rattle.qc_state.specs.Spaces.{is_space}
 use Rattle.qc_state.specs.Types.{Types, Meaning}
 use Rattle.qc_state.specs.View.{View, At, at}
@@ -59,7 +60,7 @@ module _ {t : Types} where
   -- a datagram is begun with no deed
   pub begun_at : (opens : Bool) (id : SpaceId) (a : At t) → begun_after id opens a ≡ at (begun_after id opens (at a.state [])).state a.did
   unfolding begun_after skipped_after move_to deeds_move
-  begun_at opens id a = skip_at (at (state_move (Begin id opens) a.state) a.did) (is_skipped (state_move (Begin id opens) a.state).numbers id)
+  begun_at opens id a = ap (λ (x : At t). at (state_move (Begin id opens) x.state) x.did) (skip_at a (is_skipped a.state.numbers id))
 
   -- a skipped number leaves the keys
   skip_keys : (a : At t) (b : Bool) → (if b then move_to Skip a else a).state.keys ≡ a.state.keys
@@ -73,7 +74,7 @@ module _ {t : Types} where
 
   -- there is room for 25 bytes in an Initial packet, where its token isn't too long, and so there is in the others
   initial_header : (opens : Bool) (s : View t) → header_in (begun_after Initial opens (at s [])).state form.Initial ≡ header_in s form.Initial
-  unfolding begun_after skipped_after is_skipped move_to state_move numbers_move paths_move setup_move
+  unfolding begun_after skipped_after is_skipped move_to state_move numbers_move paths_move setup_move packet_drawn
   initial_header opens s = refl
 
   initial_wide : (opens : Bool) (least left : ℕ) (s : View t) → least ≤ left → nat_lt (room_of least s form.Initial) 25 ≡ false → 25 ≤ room_of left (begun_after Initial opens (at s [])).state form.Initial
@@ -127,7 +128,7 @@ module _ {t : Types} where
 
   pub begun_number : (opens : Bool) (s : View t) (id : SpaceId) → next_number (begun_after id opens (at s [])).state.numbers id ≡ coming_number s.numbers id
   unfolding begun_after skipped_after coming_number move_to state_move numbers_move deeds_move
-  begun_number opens s id = skip_number id (at (state_move (Begin id opens) s) []) (is_skipped s.numbers id) refl
+  begun_number opens s id = skip_number id (at s []) (is_skipped s.numbers id) refl
 
   -- and no packet is acknowledged no longer
   skip_acked : (id : SpaceId) (a : At t) (b : Bool) → is_skipped a.state.numbers id ≡ b → acked_number a.state.numbers id ≤ acked_number (if b then move_to Skip a else a).state.numbers id
@@ -139,10 +140,10 @@ module _ {t : Types} where
 
   pub begun_acked : (opens : Bool) (s : View t) (id : SpaceId) → acked_number s.numbers id ≤ acked_number (begun_after id opens (at s [])).state.numbers id
   unfolding begun_after skipped_after move_to state_move numbers_move deeds_move
-  begun_acked opens s id = skip_acked id (at (state_move (Begin id opens) s) []) (is_skipped s.numbers id) refl
+  begun_acked opens s id = skip_acked id (at s []) (is_skipped s.numbers id) refl
 
   -- where a packet may be sealed, its number is near the greatest acknowledged one once a datagram is begun for it
-  pub loud_near_begun : (opens : Bool) (m : Meaning t) (time : ℕ) (batch : Batch) (a : At t) (e : View t) (form : Form) → MayBegin m time a.state batch form opens → at e a.did ≡ begun_after (number_space form) opens a → next_number e.numbers (number_space form) - acked_number e.numbers (number_space form) < 2 ^ 31
+  loud_near_begun : (opens : Bool) (m : Meaning t) (time : ℕ) (batch : Batch) (a : At t) (e : View t) (form : Form) → MayBegin m time a.state batch form opens → at e a.did ≡ begun_after (number_space form) opens a → next_number e.numbers (number_space form) - acked_number e.numbers (number_space form) < 2 ^ 31
   unfolding is_used_up
   loud_near_begun opens m time batch a e form may begun =
       let s : View t = a.state in
@@ -173,7 +174,7 @@ module _ {t : Types} where
 
   begun_keys : (opens : Bool) (s : View t) (id : SpaceId) → (begun_after id opens (at s [])).state.keys ≡ s.keys
   unfolding begun_after skipped_after move_to state_move keys_move numbers_move deeds_move
-  begun_keys opens s id = skip_keys (at (state_move (Begin id opens) s) []) (is_skipped s.numbers id)
+  begun_keys opens s id = skip_keys (at s []) (is_skipped s.numbers id)
 
   same_keys : (opens : Bool) (a : At t) (e mid : View t) (space : SpaceId) (fs : List FrameValue) → at e a.did ≡ begun_after space opens a → mid ≡ state_move (Take space fs) e → mid.keys ≡ a.state.keys
   same_keys opens a e mid space fs begun is_mid =

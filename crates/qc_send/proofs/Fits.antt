@@ -17,7 +17,7 @@ use Rattle.qc_state.specs.declared.life.Close.TheVariants.{Connection, Applicati
 use Rattle.qc_header.specs.HeaderSpelling.{header_spelling}
 use Rattle.qc_state.specs.Sending.{close_frame, told_code, told_type, told_application_code, application_close, told_close, closing_frame, IsKeptReason, Closes, header_in, room_of}
 use Rattle.qc_state.specs.Spaces.{is_space, space_of}
-use Rattle.qc_state.specs.Types.{Types}
+use Rattle.qc_state.specs.Types.{TokenMaker, Types}
 use Rattle.qc_state.specs.View.{View}
 use Rattle.qc_send.proofs.Waits.{taken_fits, ack_fits, bytes_append}
 use Rattle.qc_send.specs.Taking.{TakenNow}
@@ -56,9 +56,9 @@ close_fits time s space room fs (Closes.closing acks part kept reason is) wide =
     omega (arith, acks_short, whole, close, wide)
 
 -- the frames that are taken fit into the room
-pub now_fits : {t : Types} (closing first : Bool) (time : ℕ) (s : View t) (id : SpaceId) (room : ℕ) (fs : List FrameValue) → TakenNow closing first time s id room fs → 25 ≤ room → length (frames_spelling fs) ≤ room
+pub now_fits : {t : Types} {maker : TokenMaker t} (closing first : Bool) (time : ℕ) (s : View t) (id : SpaceId) (room : ℕ) (fs : List FrameValue) → TakenNow maker closing first time s id room fs → 25 ≤ room → length (frames_spelling fs) ≤ room
 now_fits closing first time s id room fs (TakenNow.a_close e closes) wide = close_fits time s id room fs closes wide
-now_fits closing first time s id room fs (TakenNow.what_waits e taken may oldest next some) wide =
+now_fits closing first time s id room fs (TakenNow.what_waits e taken may oldest next issued some) wide =
     taken_fits time s.waiting.bundled (is_space id «Data») (space_of s.waiting.spaces id) room fs taken (omega arith)
 
 -- and behind the header

@@ -189,7 +189,7 @@ module _ {t : Types} where
   -- from what the calls say
   pub follows_taken : (opens first nearly fills counts : Bool) (m : Meaning t) (time : ℕ) (form : Form) (a : At t) (e mid : View t) (b f : At t) (before c batch : Batch) (next : Option SpaceId) (left room least number size padding : ℕ) (fs : List FrameValue) →
       MayBegin m time a.state before form opens → IsRoomy before (number_space form) opens → at e a.did ≡ begun_after (number_space form) opens a → c ≡ begun_batch a.state (number_space form) opens before →
-      left ≡ c.capacity - c.filled → room ≡ room_of left e form → 25 ≤ room → number ≡ next_number e.numbers (number_space form) → TakenNow c.closing first time e (number_space form) room fs → mid ≡ state_move (Take (number_space form) fs) e →
+      left ≡ c.capacity - c.filled → room ≡ room_of left e form → 25 ≤ room → number ≡ next_number e.numbers (number_space form) → TakenNow m.token c.closing first time e (number_space form) room fs → mid ≡ state_move (Take (number_space form) fs) e →
       JoiningIs time mid (batch_planned mid form nearly fs c) next → least ≡ least_by next (batch_planned mid form nearly fs c) c.filled →
       b ≡ move_to (Seal time form (next_number mid.numbers (number_space form)) (packet_size mid form (padded_to mid form least fs)) (padded_to mid form least fs)) (at mid a.did) →
       size ≡ packet_size mid form (padded_to mid form least fs) → padding ≡ padding_to mid form least fs → fills ≡ fills_up mid form (padded_to mid form least fs) →

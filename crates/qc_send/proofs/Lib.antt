@@ -2,7 +2,7 @@ pub mod Begins
 pub mod Built
 pub mod Choosing
 pub mod ClosingFrames
-pub mod Drawing
+pub mod Headers
 pub mod Fits
 pub mod Follows
 pub mod Joins
@@ -15,6 +15,7 @@ pub mod Sealed
 pub mod Seals
 pub mod Sends
 pub mod Sizes
+pub mod Spelled
 pub mod Takes
 pub mod Transmits
 pub mod Waits

@@ -110,7 +110,7 @@ module _ {t : Types} where
 
   -- a datagram that is full is followed by what the search for a further one finds
   outcome_by : (m : Meaning t) (time : ℕ) (s : View t) (b : Batch) (found : Further) → IsFull time s b → FurtherIs m time s b found → OutcomeIs m time s b (outcome_of found)
-  outcome_by m time s b (further.Begins id) full h = h
+  outcome_by m time s b (further.Begins id) full h = h.0
   outcome_by m time s b further.Paced full h = (full, h)
   outcome_by m time s b further.Ends full h = (full, tt)
   outcome_by m time s b further.Passes full h = (full, tt)

@@ -31,7 +31,7 @@ use Rattle.qc_state.specs.Numbers.{next_number}
 use Rattle.qc_state.specs.Batches.{wanted_by, widens}
 use Rattle.qc_state.specs.Sending.{Closes, IsPadded, application_close, close_frame, closing_frame, fills, fills_up, header_in, holds_owed, least_size, packet_size, padding_in, room_beside, room_of, told_close}
 use Rattle.qc_state.specs.Spaces.{is_space, space_of}
-use Rattle.qc_state.specs.Types.{Types}
+use Rattle.qc_state.specs.Types.{TokenMaker, Types}
 use Rattle.qc_state.specs.View.{View}
 use Rattle.qc_send.proofs.Built.{dst_within}
 use Rattle.qc_send.proofs.Fits.{room_holds}
@@ -101,20 +101,20 @@ fills_initial Server Handshake eliciting h = cc
 fills_initial Server Data eliciting h = cc
 
 module _ {t : Types} where
-  wait_bare : (time : ℕ) (s : View t) (id : SpaceId) (fs : List FrameValue) → WaitAll time s id fs → padding_in fs ≡ 0
+  wait_bare : (maker : TokenMaker t) (time : ℕ) (s : View t) (id : SpaceId) (fs : List FrameValue) → WaitAll maker time s id fs → padding_in fs ≡ 0
   unfolding WaitAll Waits
-  wait_bare time s id [] h = refl
-  wait_bare time s id (Padding ∷ fs) h = absurd h.0
-  wait_bare time s id (f ∷ fs) h = wait_bare time (state_move (Take id (f ∷ [])) s) id fs h.1
+  wait_bare maker time s id [] h = refl
+  wait_bare maker time s id (Padding ∷ fs) h = absurd h.0
+  wait_bare maker time s id (f ∷ fs) h = wait_bare maker time (state_move (Take id (f ∷ [])) s) id fs h.1
 
   close_bare : (time : ℕ) (s : View t) (id : SpaceId) (room : ℕ) (fs : List FrameValue) → Closes time s id room fs → padding_in fs ≡ 0
   close_bare time s id room fs (Closes.closing acks part kept reason is) =
       ap padding_in is ∙ padding_append acks (closing_frame id kept s.life ∷ [])
       ∙ omega (arith, ack_bare time (room - 25) (space_of s.waiting.spaces id) acks (may_acknowledge (space_of s.waiting.spaces id).acks) part, closing_bare id kept (is_closed s.life.state) s.life.close)
 
-  pub taken_bare : (closing first : Bool) (time : ℕ) (s : View t) (id : SpaceId) (room : ℕ) (fs : List FrameValue) → TakenNow closing first time s id room fs → padding_in fs ≡ 0
-  taken_bare closing first time s id room fs (TakenNow.a_close e closes) = close_bare time s id room fs closes
-  taken_bare closing first time s id room fs (TakenNow.what_waits e taken may oldest next some) = wait_bare time s id fs (taken_wait time s id room fs taken may oldest next)
+  pub taken_bare : (maker : TokenMaker t) (closing first : Bool) (time : ℕ) (s : View t) (id : SpaceId) (room : ℕ) (fs : List FrameValue) → TakenNow maker closing first time s id room fs → padding_in fs ≡ 0
+  taken_bare maker closing first time s id room fs (TakenNow.a_close e closes) = close_bare time s id room fs closes
+  taken_bare maker closing first time s id room fs (TakenNow.what_waits e taken may oldest next issued some) = wait_bare maker time s id fs (taken_wait maker time s id room fs taken may oldest next issued)
 
   -- ---- the packet's size
 

@@ -105,7 +105,7 @@ module _ {t : Types} where
   taken_view : (m : Meaning t) (time : ℕ) (quiet : Quiet) (b : Batch) (a : At t) (e mid : View t) → at e a.did ≡ probe_begun_after m time quiet b a → mid ≡ state_move (Take «Data» (Ping ∷ [])) e → mid.numbers ≡ (probe_begun_after m time quiet b a).state.numbers
   taken_view m time quiet b a e mid begun is = ap (λ (x : View t). x.numbers) is ∙ number_kept e form.OneRtt (Ping ∷ []) ∙ ap (λ (x : At t). x.state.numbers) begun
 
-  pub probe_near_begun : (m : Meaning t) (time : ℕ) (quiet : Quiet) (b : Batch) (a : At t) (e : View t) → kill_in b a.state form.OneRtt ≡ None → at e a.did ≡ probe_begun_after m time quiet b a →
+  probe_near_begun : (m : Meaning t) (time : ℕ) (quiet : Quiet) (b : Batch) (a : At t) (e : View t) → kill_in b a.state form.OneRtt ≡ None → at e a.did ≡ probe_begun_after m time quiet b a →
       next_number e.numbers «Data» - acked_number e.numbers «Data» < 2 ^ 31
   unfolding is_used_up
   probe_near_begun m time quiet b a e kill begun =

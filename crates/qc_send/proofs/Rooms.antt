@@ -15,16 +15,9 @@ use Rattle.qc_state.specs.Moves.{Begin, Skip, deeds_move, move_to, numbers_move,
 use Rattle.qc_state.specs.Numbers.{acked_number, coming_number, is_skipped, next_number, number_skipped, used_in}
 use Rattle.qc_state.specs.Offers.{short_room}
 use Rattle.qc_state.specs.Sending.{begun_after, begun_view, header_in, is_past_limit, is_used_up, room_of, skipped_after}
+use Rattle.qc_state.specs.Setup.{packet_drawn}
 use Rattle.qc_state.specs.Types.{Types}
 use Rattle.qc_state.specs.View.{View, At, at}
-
--- a number that can be spelled is near the greatest acknowledged one
-past_near : (number acked : ℕ) → is_past_limit number acked ≡ false → number - acked < 2 ^ 31
-past_near number acked h = grind (arith, nat_tests, second (nat_le (2 ^ 62 - 1) number) (nat_le (2 ^ 31) (number - acked)) h)
-  where
-    second : (a b : Bool) → (a || b) ≡ false → b ≡ false
-    second true b h = cc
-    second false b h = h
 
 -- where a number is skipped, one more is acknowledged at most: this doesn't change how many bytes the next one has
 skip_len : (largest n : ℕ) → number_len (number_of (n + 1) (min largest (n + 1))) ≡ number_len (number_of (n + 1) (min largest n))
@@ -43,11 +36,11 @@ skip_len largest n = by_test (nat_le largest n) refl
 module _ {t : Types} where
   -- an Initial or a Handshake packet has the header that it would have before it is begun
   begun_initial : (opens : Bool) (s : View t) → header_in (begun_view s Initial opens) form.Initial ≡ header_in s form.Initial
-  unfolding begun_view begun_after skipped_after is_skipped move_to state_move numbers_move paths_move setup_move
+  unfolding begun_view begun_after skipped_after is_skipped move_to state_move numbers_move paths_move setup_move packet_drawn
   begun_initial opens s = refl
 
   begun_handshake : (opens : Bool) (s : View t) → header_in (begun_view s Handshake opens) form.Handshake ≡ header_in s form.Handshake
-  unfolding begun_view begun_after skipped_after is_skipped move_to state_move numbers_move paths_move setup_move
+  unfolding begun_view begun_after skipped_after is_skipped move_to state_move numbers_move paths_move setup_move packet_drawn
   begun_handshake opens s = refl
 
   -- a 1-RTT packet's header, by the number that comes
@@ -55,19 +48,24 @@ module _ {t : Types} where
   unfolding header_spelling short_spelling
   short_len s = simp length-append (omega (arith, length-number_bytes (number_of (next_number s.numbers «Data») (acked_number s.numbers «Data»))))
 
-  skip_short : (a : At t) (b : Bool) → is_skipped a.state.numbers «Data» ≡ b →
-      length (header_spelling (header_in (if b then move_to Skip a else a).state form.OneRtt) 0)
+  begin_short : (opens : Bool) (s : View t) → length (header_spelling (header_in (state_move (Begin «Data» opens) s) form.OneRtt) 0)
+      ≡ 1 + length s.paths.current.remote_cid + number_len (number_of (next_number s.numbers «Data») (acked_number s.numbers «Data»))
+  unfolding state_move numbers_move paths_move
+  begin_short opens s = short_len (state_move (Begin «Data» opens) s)
+
+  skip_short : (opens : Bool) (a : At t) (b : Bool) → is_skipped a.state.numbers «Data» ≡ b →
+      length (header_spelling (header_in (state_move (Begin «Data» opens) (if b then move_to Skip a else a).state) form.OneRtt) 0)
       ≡ 1 + length a.state.paths.current.remote_cid + number_len (number_of (if b then next_number a.state.numbers «Data» + 1 else next_number a.state.numbers «Data») (acked_number a.state.numbers «Data»))
   unfolding move_to state_move numbers_move paths_move number_skipped used_in next_number acked_number
-  skip_short a true e =
-      short_len (move_to Skip a).state
+  skip_short opens a true e =
+      begin_short opens (move_to Skip a).state
       ∙ ap (λ (n : ℕ). 1 + length a.state.paths.current.remote_cid + n) (skip_len a.state.numbers.spaces.application.largest_acked a.state.numbers.spaces.application.next)
-  skip_short a false e = short_len a.state
+  skip_short opens a false e = begin_short opens a.state
 
   begun_short : (opens : Bool) (s : View t) → length (header_spelling (header_in (begun_view s «Data» opens) form.OneRtt) 0)
       ≡ 1 + length s.paths.current.remote_cid + number_len (number_of (coming_number s.numbers «Data») (acked_number s.numbers «Data»))
-  unfolding begun_view begun_after skipped_after coming_number move_to state_move numbers_move paths_move deeds_move
-  begun_short opens s = skip_short (at (state_move (Begin «Data» opens) s) []) (is_skipped s.numbers «Data») refl
+  unfolding begun_view begun_after skipped_after coming_number move_to deeds_move
+  begun_short opens s = skip_short opens (at s []) (is_skipped s.numbers «Data») refl
 
   -- how much room a packet has
   pub room_initial : (left n : ℕ) (s : View t) (id : SpaceId) → id ≡ Initial → n ≡ room_of left s form.Initial → n ≡ room_of left (begun_view s id false) (form_in s.keys id)
@@ -87,12 +85,3 @@ module _ {t : Types} where
   room_short left n s id is_id is =
       subst (λ (x : SpaceId). n ≡ room_of left (begun_view s x false) (form_in s.keys x)) (sym is_id)
       (is ∙ ap (λ (x : ℕ). left - 16 - x) (sym (begun_short false s)))
-
-  -- the number of such a packet can be spelled, where it isn't used up
-  pub near_initial : (s : View t) (id : SpaceId) → id ≡ Initial → is_used_up s id ≡ false → next_number s.numbers Initial - acked_number s.numbers Initial < 2 ^ 31
-  unfolding is_used_up coming_number is_skipped
-  near_initial s id is h = past_near (next_number s.numbers Initial) (acked_number s.numbers Initial) (subst (λ (x : SpaceId). is_used_up s x ≡ false) is h)
-
-  pub near_handshake : (s : View t) (id : SpaceId) → id ≡ Handshake → is_used_up s id ≡ false → next_number s.numbers Handshake - acked_number s.numbers Handshake < 2 ^ 31
-  unfolding is_used_up coming_number is_skipped
-  near_handshake s id is h = past_near (next_number s.numbers Handshake) (acked_number s.numbers Handshake) (subst (λ (x : SpaceId). is_used_up s x ≡ false) is h)

@@ -19,9 +19,8 @@ use Rattle.qc_state.specs.declared.keys.OneRttKeys.{OneRttKeys}
 use Rattle.qc_state.specs.declared.keys.SpaceKeys.{SpaceKeys}
 use Rattle.qc_state.specs.Datagrams.{first_fits}
 use Rattle.qc_state.specs.Ids.{ids_want}
-use Rattle.qc_state.specs.Offers.{datagram_fits, datagram_waits, path_size, short_room, streams_want, waits_in, wants_sending}
+use Rattle.qc_state.specs.Offers.{datagram_fits, datagram_waits, path_size, short_room, streams_want, waits_in, wants_sending, tokens_want}
 use Rattle.qc_state.specs.declared.deeds.Did.{Did}
-use Rattle.qc_state.specs.Setup.{packet_drawn}
 use Rattle.qc_state.specs.declared.form.Form.{Form}
 use Rattle.qc_state.specs.declared.form.Form.TheVariants as form
 use Rattle.qc_state.specs.declared.lower.Lower.{Lower}
@@ -139,7 +138,7 @@ module _ {t : Types} where
     pub ids : w.lower.ids ≡ s.lower.ids
 
   sealed_leaves : (time : ℕ) (f : Form) (n size : ℕ) (fs : List FrameValue) (s : View t) → Leaves f n s (state_move (Seal time f n size fs) s)
-  unfolding state_move numbers_move keys_move life_move paths_move setup_move lower_move packet_drawn packet_flown
+  unfolding state_move numbers_move keys_move life_move paths_move setup_move lower_move packet_flown
   sealed_leaves time f n size fs s = record {
     numbers = refl;
     keys = refl;
@@ -187,7 +186,7 @@ module _ {t : Types} where
   -- what waits there that elicits an acknowledgement
   wants_other : (f : Form) (n : ℕ) (s w : View t) (id : SpaceId) → Leaves f n s w → wants_sending w id ≡ wants_sending s id
   unfolding wants_sending
-  wants_other f n s w id h = λ i. wants_here (space_of (h.spaces i) id) || (streams_want id (h.streams i) || ids_want id (h.ids i))
+  wants_other f n s w id h = λ i. wants_here (space_of (h.spaces i) id) || (streams_want id (h.streams i) || (ids_want id (h.ids i) || tokens_want id (space_of (h.spaces i) id)))
 
   -- how much room their packets have
   short_other : (left : ℕ) (f : Form) (n : ℕ) (s w : View t) → Leaves f n s w → is_space (number_space f) «Data» ≡ false → short_room left w ≡ short_room left s

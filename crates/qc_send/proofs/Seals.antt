@@ -19,7 +19,7 @@ use Rattle.qc_state.specs.Offers.{offers_in}
 use Rattle.qc_state.specs.Spaces.{space_of}
 use Rattle.qc_state.specs.Batches.{batch_grown, batch_opened}
 use Rattle.qc_state.specs.Sending.{Carries, Going, IsPadded, LacksAckRoom, MayBegin, MayFollow, SendsOne, begun_after, begun_batch, begun_view, fills_up, flown_after, going, holds_owed, is_flown, is_key_nearly_used_up, packet_after, packet_bytes, packet_size, padding_in, room_beside, room_in, room_of, sealed_in}
-use Rattle.qc_state.specs.Types.{Types, Meaning}
+use Rattle.qc_state.specs.Types.{TokenMaker, Types, Meaning}
 use Rattle.qc_state.specs.View.{View, At, at}
 use Rattle.qc_send.proofs.Begins.{begun_is, begun_state}
 use Rattle.qc_send.proofs.Fits.{now_fits, room_holds}
@@ -50,9 +50,9 @@ module _ {t : Types} where
   begun_closing s id opens b c is = ap (λ (x : Batch). x.closing) is ∙ opened_closing opens _ b
 
   -- what a packet carries, by the view and the batch once it was begun
-  record IsCarried (closing due : Bool) (made time : ℕ) (v : View t) (c : Batch) (form : Form) (gs : List FrameValue) : Type 0 where
+  record IsCarried (maker : TokenMaker t) (closing due : Bool) (made time : ℕ) (v : View t) (c : Batch) (form : Form) (gs : List FrameValue) : Type 0 where
     sized : c.capacity ≤ 65527
-    carries : Carries closing time v form (room_in c v form) gs
+    carries : Carries maker closing time v form (room_in c v form) gs
     holds : closing ≡ false → (holds_owed v (number_space form) gs ≡ true) ⊎ ((made ≡ 0) × LacksAckRoom time v (number_space form) (room_in c v form))
     full : closing ≡ false → 64 ≤ room_beside (room_in c v form) gs → offers_in (state_move (Take (number_space form) gs) v) (number_space form) ≡ false
     probes : closing ≡ false → due ≡ true → (list_any elicits gs ≡ true) ⊎ (room_beside (room_in c v form) gs < 64)
@@ -60,17 +60,17 @@ module _ {t : Types} where
     fits : c.filled + packet_size v form gs ≤ c.capacity
 
   -- frames that were taken, with PADDING behind them, are carried
-  taken_carries : (closing first : Bool) (time : ℕ) (v : View t) (form : Form) (room least : ℕ) (fs : List FrameValue) → TakenNow closing first time v (number_space form) room fs → Carries closing time v form room (padded_to v form least fs)
+  taken_carries : (maker : TokenMaker t) (closing first : Bool) (time : ℕ) (v : View t) (form : Form) (room least : ℕ) (fs : List FrameValue) → TakenNow maker closing first time v (number_space form) room fs → Carries maker closing time v form room (padded_to v form least fs)
   unfolding padded_to
-  taken_carries closing first time v form room least fs (TakenNow.a_close e closes) = Carries.a_close e fs (padding_to v form least fs) closes refl
-  taken_carries closing first time v form room least fs (TakenNow.what_waits e taken may oldest next some) =
-      Carries.what_waits e fs (padding_to v form least fs) (taken_wait time v (number_space form) room fs taken may oldest next) refl
+  taken_carries maker closing first time v form room least fs (TakenNow.a_close e closes) = Carries.a_close e fs (padding_to v form least fs) closes refl
+  taken_carries maker closing first time v form room least fs (TakenNow.what_waits e taken may oldest next issued some) =
+      Carries.what_waits e fs (padding_to v form least fs) (taken_wait maker time v (number_space form) room fs taken may oldest next issued) refl
 
   -- and hold something that is owed
-  taken_holds : (closing first : Bool) (made time : ℕ) (v : View t) (form : Form) (room least : ℕ) (fs : List FrameValue) → first ≡ (made == 0) → TakenNow closing first time v (number_space form) room fs → closing ≡ false →
+  taken_holds : {maker : TokenMaker t} (closing first : Bool) (made time : ℕ) (v : View t) (form : Form) (room least : ℕ) (fs : List FrameValue) → first ≡ (made == 0) → TakenNow maker closing first time v (number_space form) room fs → closing ≡ false →
       (holds_owed v (number_space form) (padded_to v form least fs) ≡ true) ⊎ ((made ≡ 0) × LacksAckRoom time v (number_space form) room)
   taken_holds closing first made time v form room least fs is_first (TakenNow.a_close e closes) free = absurd (cc (e, free))
-  taken_holds closing first made time v form room least fs is_first (TakenNow.what_waits e taken may oldest next some) free = by_owed (taken_owed first time v (number_space form) room fs taken some)
+  taken_holds closing first made time v form room least fs is_first (TakenNow.what_waits e taken may oldest next issued some) free = by_owed (taken_owed first time v (number_space form) room fs taken some)
     where
       by_owed : (holds_owed v (number_space form) fs ≡ true) ⊎ ((first ≡ true) × LacksAckRoom time v (number_space form) room) →
           (holds_owed v (number_space form) (padded_to v form least fs) ≡ true) ⊎ ((made ≡ 0) × LacksAckRoom time v (number_space form) room)
@@ -110,33 +110,33 @@ module _ {t : Types} where
       omega (arith, is, is_left, least_fits next c (number_space form) form (next_number v.numbers (number_space form)) (size_to v form 0 fs) (fills_up v form fs) nearly begun (fills_first v form fs))
 
   -- so it is carried
-  is_carried : (next : Option SpaceId) (closing first due nearly : Bool) (made time room least : ℕ) (v : View t) (c : Batch) (form : Form) (fs : List FrameValue) → IsBegun c (number_space form) → first ≡ (made == 0) →
-      room ≡ room_of (c.capacity - c.filled) v form → 25 ≤ room → TakenNow closing first time v (number_space form) room fs →
+  is_carried : (maker : TokenMaker t) (next : Option SpaceId) (closing first due nearly : Bool) (made time room least : ℕ) (v : View t) (c : Batch) (form : Form) (fs : List FrameValue) → IsBegun c (number_space form) → first ≡ (made == 0) →
+      room ≡ room_of (c.capacity - c.filled) v form → 25 ≤ room → TakenNow maker closing first time v (number_space form) room fs →
       (closing ≡ false → 64 ≤ room - length (frames_spelling fs) → offers_in (state_move (Take (number_space form) fs) v) (number_space form) ≡ false) →
       (closing ≡ false → due ≡ true → (list_any elicits fs ≡ true) ⊎ (room - length (frames_spelling fs) < 64)) → least ≡ least_by next (batch_planned v form nearly fs c) c.filled →
-      IsCarried closing due made time v c form (padded_to v form least fs)
+      IsCarried maker closing due made time v c form (padded_to v form least fs)
   unfolding room_in
-  is_carried next closing first due nearly made time room least v c form fs begun is_first is_room wide taken full probes is =
-      let here : TakenNow closing first time v (number_space form) (room_of (c.capacity - c.filled) v form) fs = subst (λ (n : ℕ). TakenNow closing first time v (number_space form) n fs) is_room taken in
+  is_carried maker next closing first due nearly made time room least v c form fs begun is_first is_room wide taken full probes is =
+      let here : TakenNow maker closing first time v (number_space form) (room_of (c.capacity - c.filled) v form) fs = subst (λ (n : ℕ). TakenNow maker closing first time v (number_space form) n fs) is_room taken in
       let broad : 25 ≤ room_of (c.capacity - c.filled) v form = subst (λ (n : ℕ). 25 ≤ n) is_room wide in
-      let bare : padding_in fs ≡ 0 = taken_bare closing first time v (number_space form) room fs taken in
+      let bare : padding_in fs ≡ 0 = taken_bare maker closing first time v (number_space form) room fs taken in
       record {
         sized = omega (arith, begun.sized.within, begun.sized.small);
-        carries = taken_carries closing first time v form (room_of (c.capacity - c.filled) v form) least fs here;
+        carries = taken_carries maker closing first time v form (room_of (c.capacity - c.filled) v form) least fs here;
         holds = taken_holds closing first made time v form (room_of (c.capacity - c.filled) v form) least fs is_first here;
         full = λ free enough. full_padded v form room least fs bare (full free) (subst (λ (n : ℕ). 64 ≤ room_beside n (padded_to v form least fs)) (sym is_room) enough);
         probes = λ free owed. subst (λ (n : ℕ). (list_any elicits (padded_to v form least fs) ≡ true) ⊎ (room_beside n (padded_to v form least fs) < 64)) is_room (probes_padded v form room least fs bare (probes free owed));
-        padded = padded_is next c v form nearly least fs begun broad (taken_bare closing first time v (number_space form) (room_of (c.capacity - c.filled) v form) fs here) is;
+        padded = padded_is next c v form nearly least fs begun broad (taken_bare maker closing first time v (number_space form) (room_of (c.capacity - c.filled) v form) fs here) is;
         fits = packet_fits next c v form nearly least fs begun broad (now_fits closing first time v (number_space form) (room_of (c.capacity - c.filled) v form) fs here broad) is;
       }
 
   -- a packet may follow that may be begun, and is carried
   may_follow : (m : Meaning t) (time : ℕ) (s v : View t) (b c : Batch) (form : Form) (opens due : Bool) (gs : List FrameValue) → MayBegin m time s b form opens → v ≡ begun_view s (number_space form) opens →
-      c ≡ begun_batch s (number_space form) opens b → due ≡ not ((space_of s.waiting.spaces (number_space form)).probes == 0) → IsCarried b.closing due b.made time v c form gs →
+      c ≡ begun_batch s (number_space form) opens b → due ≡ not ((space_of s.waiting.spaces (number_space form)).probes == 0) → IsCarried m.token b.closing due b.made time v c form gs →
       MayFollow m time s b (record { form = form; opens = opens; frames = gs })
   may_follow m time s v b c form opens due gs may is_v is_c is_due carried =
-      let here : IsCarried b.closing due b.made time (begun_view s (number_space form) opens) (begun_batch s (number_space form) opens b) form gs =
-      subst (λ (x : Batch). IsCarried b.closing due b.made time (begun_view s (number_space form) opens) x form gs) is_c (subst (λ (x : View t). IsCarried b.closing due b.made time x c form gs) is_v carried) in
+      let here : IsCarried m.token b.closing due b.made time (begun_view s (number_space form) opens) (begun_batch s (number_space form) opens b) form gs =
+      subst (λ (x : Batch). IsCarried m.token b.closing due b.made time (begun_view s (number_space form) opens) x form gs) is_c (subst (λ (x : View t). IsCarried m.token b.closing due b.made time x c form gs) is_v carried) in
       record {
         begins = may;
         sized = here.sized;
@@ -174,7 +174,7 @@ module _ {t : Types} where
       (left room least number size padding : ℕ) (fs : List FrameValue) → first ≡ (g.batch.made == 0) → due ≡ not ((space_of g.now.state.waiting.spaces (number_space form)).probes == 0) →
       nearly ≡ is_key_nearly_used_up g.now.state form → MayBegin m time g.now.state g.batch form opens → IsRoomy g.batch (number_space form) opens →
       at e g.now.did ≡ begun_after (number_space form) opens g.now → c ≡ begun_batch g.now.state (number_space form) opens g.batch → left ≡ c.capacity - c.filled → room ≡ room_of left e form → 25 ≤ room →
-      number ≡ next_number e.numbers (number_space form) → TakenNow c.closing first time e (number_space form) room fs →
+      number ≡ next_number e.numbers (number_space form) → TakenNow m.token c.closing first time e (number_space form) room fs →
       (c.closing ≡ false → 64 ≤ room - length (frames_spelling fs) → offers_in mid (number_space form) ≡ false) → (c.closing ≡ false → due ≡ true → (list_any elicits fs ≡ true) ⊎ (room - length (frames_spelling fs) < 64)) →
       mid ≡ state_move (Take (number_space form) fs) e → least ≡ least_by next (batch_planned mid form nearly fs c) c.filled →
       b ≡ move_to (Seal time form (next_number mid.numbers (number_space form)) (packet_size mid form (padded_to mid form least fs)) (padded_to mid form least fs)) (at mid g.now.did) →
@@ -191,7 +191,7 @@ module _ {t : Types} where
       let size_e : packet_size mid form hs ≡ packet_size e form gs = ap (λ (xs : List FrameValue). packet_size mid form xs) filled ∙ ap (λ (v : View t). packet_size v form gs) is_mid ∙ size_kept e form fs gs in
       let number_e : next_number mid.numbers id ≡ next_number e.numbers id = ap (λ (v : Numbers). next_number v id) (ap (λ (x : View t). x.numbers) is_mid ∙ number_kept e form fs) in
       let padding_e : padding ≡ padding_in gs =
-      is_padding ∙ ap (λ (v : View t). padding_to v form least fs) is_mid ∙ padding_kept e form least fs fs ∙ sym (padding_in_is e form least fs (taken_bare c.closing first time e id room fs taken)) in
+      is_padding ∙ ap (λ (v : View t). padding_to v form least fs) is_mid ∙ padding_kept e form least fs fs ∙ sym (padding_in_is e form least fs (taken_bare m.token c.closing first time e id room fs taken)) in
       let fills_e : fills ≡ fills_up e form gs = is_fills ∙ ap (λ (xs : List FrameValue). fills_up mid form xs) filled ∙ ap (λ (v : View t). fills_up v form gs) is_mid ∙ fills_kept e form fs gs in
       let bytes_e : packet_bytes m mid form hs ≡ packet_bytes m e form gs = ap (λ (xs : List FrameValue). packet_bytes m mid form xs) filled ∙ ap (λ (v : View t). packet_bytes m v form gs) is_mid ∙ bytes_kept m e form fs gs in
       let sealed : b ≡ move_to (Seal time form (next_number e.numbers id) (packet_size e form gs) gs) (at mid ds) =
@@ -205,14 +205,14 @@ module _ {t : Types} where
       let room_e : room ≡ room_of (c.capacity - c.filled) e form = is_room ∙ ap (λ (n : ℕ). room_of n e form) is_left in
       let filled_up : c.closing ≡ false → 64 ≤ room - length (frames_spelling fs) → offers_in (state_move (Take id fs) e) id ≡ false =
       λ free enough. subst (λ (v : View t). offers_in v id ≡ false) is_mid (full free enough) in
-      let carried : IsCarried c.closing due g.batch.made time e c form gs =
-      is_carried next c.closing first due nearly g.batch.made time room least e c form fs (begun_is opens m time g.now.state g.batch c form may roomy is_c) is_first room_e wide taken filled_up probes planned in
+      let carried : IsCarried m.token c.closing due g.batch.made time e c form gs =
+      is_carried m.token next c.closing first due nearly g.batch.made time room least e c form fs (begun_is opens m time g.now.state g.batch c form may roomy is_c) is_first room_e wide taken filled_up probes planned in
       let grown : batch ≡ batch_grown form (next_number e.numbers id) (packet_size e form gs) (padding_in gs) (fills_up e form gs) (is_key_nearly_used_up g.now.state form) (begun_batch g.now.state id opens g.batch) =
       is_batch ∙ (λ i. batch_grown form (is_number i) ((is_size ∙ size_e) i) (padding_e i) (fills_e i) (is_nearly i) (is_c i)) in
       record {
         packet = record { form = form; opens = opens; frames = gs };
         same = refl;
         may = may_follow m time g.now.state e g.batch c form opens due gs may (begun_state opens g.now e id begun) is_c is_due
-            (subst (λ (x : Bool). IsCarried x due g.batch.made time e c form gs) (begun_closing g.now.state id opens g.batch c is_c) carried);
+            (subst (λ (x : Bool). IsCarried m.token x due g.batch.made time e c form gs) (begun_closing g.now.state id opens g.batch c is_c) carried);
         leads = leads_by m time g e form opens gs f batch buffer begun now grown (is_buffer ∙ ap (λ (xs : List ℕ). g.out ++ xs) bytes_e);
       }

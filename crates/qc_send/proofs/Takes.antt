@@ -18,19 +18,17 @@ use Rattle.qc_header.specs.declared.header.Header.{Header}
 use Rattle.qc_header.specs.HeaderSpelling.{header_spelling}
 use Rattle.qc_packet.specs.Building.{padded_size}
 use Rattle.qc_packet.specs.PacketSpelling.{padding_len}
-use Rattle.qc_state.specs.Draws.{bit}
 use Rattle.qc_state.specs.declared.deeds.Did.{Did}
 use Rattle.qc_state.specs.declared.life.Life.{Life}
-use Rattle.qc_state.specs.declared.lower.Lower.{Lower}
 use Rattle.qc_state.specs.declared.waiting.SpaceWaiting.{SpaceWaiting}
 use Rattle.qc_state.specs.Keys.{header_key, packet_key}
 use Rattle.qc_state.specs.Moves.{Take, Seal, state_move, move_to, numbers_move, keys_move, life_move, paths_move, timers_move, waiting_move, setup_move, lower_move, deeds_move}
 use Rattle.qc_state.specs.Numbers.{next_number}
-use Rattle.qc_state.specs.Setup.{behind_spin, takes_grease}
+use Rattle.qc_state.specs.Setup.{takes_grease}
 use Rattle.qc_state.specs.Sending.{close_frame, application_close, told_close, closing_frame, IsKeptReason, Closes, header_in, spin_now, fills_up, flips_now, holds_owed, room_of, sealed_with, packet_bytes, is_flown, flown_after, sealed_in, packet_size}
 use Rattle.qc_send.specs.Filling.{padded_to, padding_to, size_to}
 use Rattle.qc_state.specs.Spaces.{is_space, space_of, with_space}
-use Rattle.qc_state.specs.Types.{Types, Meaning}
+use Rattle.qc_state.specs.Types.{TokenMaker, Types, Meaning}
 use Rattle.qc_state.specs.View.{View, At, at}
 use Rattle.qc_state.specs.Taking.{TakenPart}
 use Rattle.qc_state.specs.Waiting.{waiting_without, without, without_all}
@@ -39,12 +37,14 @@ use Rattle.qc_cids.specs.Steps as ids
 use Rattle.qc_datagrams.specs.Steps as posts
 use Rattle.qc_state.specs.Datagrams.{AllOldest, sealed_datagrams, told_by_all}
 use Rattle.qc_state.specs.Ids.{AllNext, sealed_cids}
-use Rattle.qc_state.specs.Lower.{frames_sealed}
 use Rattle.qc_state.specs.Offers.{datagram_waits, wants_sending}
 use Rattle.qc_state.specs.StreamFrames.{sealed_steps}
 use Rattle.qc_state.proofs.DatagramSteps.{datagrams_append, datagrams_closing, datagrams_padded}
 use Rattle.qc_state.proofs.IdSteps.{cids_append, cids_closing, cids_padded}
+use Rattle.qc_state.proofs.Issued.{behind_append, undrawn, tokens_closing, tokens_of, tokens_padding}
 use Rattle.qc_state.proofs.OffersTaken.{sealed_same}
+use Rattle.qc_state.specs.Tokens.{AllIssued, behind_tokens, made_by}
+use Rattle.std.specs.Net.Socket.{socket_ip}
 use Rattle.qc_state.proofs.SealedSteps.{sealed_append, sealed_closing, sealed_padded}
 use Rattle.qc_streams.specs.Steps.{AllMay}
 use Rattle.qc_streams.specs.Waits.{Step}
@@ -79,11 +79,14 @@ module _ {t : Types} where
       let gs : List FrameValue = padded_to s form least fs in
       let n : ℕ = padding_to s form least fs in
       let told : List posts.Step → Life = λ xs. more_heard (told_by_all xs s.lower.datagrams) s.life in
-      ap (λ (w : SpaceWaiting). record s { waiting = record s.waiting { spaces = with_space s.waiting.spaces (number_space form) w }; life = told (sealed_datagrams gs); lower = frames_sealed gs s.lower })
-      (without_padded (space_of s.waiting.spaces (number_space form)) fs n)
-      ∙ ap (λ (xs : List posts.Step). record s { waiting = waiting_without s.waiting (number_space form) fs; life = told xs; lower = frames_sealed gs s.lower }) (datagrams_padded fs n)
-      ∙ ap (λ (l : Lower t.S). record s { waiting = waiting_without s.waiting (number_space form) fs; life = told (sealed_datagrams fs); lower = l })
-      (sealed_same gs fs s.lower (sealed_padded fs n) (datagrams_padded fs n) (cids_padded fs n))
+      let words : behind_tokens gs s.setup.random ≡ behind_tokens fs s.setup.random =
+      behind_append fs (replicate n Padding) s.setup.random ∙ undrawn (replicate n Padding) (behind_tokens fs s.setup.random) (tokens_padding n) in
+      λ i. record s {
+        waiting = record s.waiting { spaces = with_space s.waiting.spaces (number_space form) (without_padded (space_of s.waiting.spaces (number_space form)) fs n i) };
+        life = told (datagrams_padded fs n i);
+        setup = record s.setup { random = words i };
+        lower = sealed_same gs fs s.lower (sealed_padded fs n) (datagrams_padded fs n) (cids_padded fs n) i;
+      }
 
   -- a close behind an ACK changes nothing more of what waits
   close_behind : (s : View t) (id : SpaceId) (kept : List ℕ) (acks : List FrameValue) → state_move (Take id acks) s ≡ state_move (Take id (acks ++ closing_frame id kept s.life ∷ [])) s
@@ -101,10 +104,17 @@ module _ {t : Types} where
       cids_append acks (closing_frame id kept s.life ∷ []) ∙ ap (λ (xs : List ids.Step). sealed_cids acks ++ (xs ++ [])) (cids_closing id kept (is_closed s.life.state) s.life.close)
       ∙ append-nil (sealed_cids acks) in
       let told : List posts.Step → Life = λ xs. more_heard (told_by_all xs s.lower.datagrams) s.life in
-      ap (λ (x : SpaceWaiting). record s { waiting = record s.waiting { spaces = with_space s.waiting.spaces id x }; life = told (sealed_datagrams acks); lower = frames_sealed acks s.lower })
-      (sym (without_all_append w acks (closing_frame id kept s.life ∷ []) ∙ close_stays (without_all w acks) id kept (is_closed s.life.state) s.life.close))
-      ∙ ap (λ (xs : List posts.Step). record s { waiting = waiting_without s.waiting id all; life = told xs; lower = frames_sealed acks s.lower }) (sym datagrams)
-      ∙ ap (λ (l : Lower t.S). record s { waiting = waiting_without s.waiting id all; life = told (sealed_datagrams all); lower = l }) (sealed_same acks all s.lower (sym steps) (sym datagrams) (sym cids))
+      let none : tokens_of (closing_frame id kept s.life ∷ []) ≡ [] = ap (λ (xs : List (List ℕ)). xs ++ []) (tokens_closing id kept (is_closed s.life.state) s.life.close) in
+      let words : behind_tokens acks s.setup.random ≡ behind_tokens all s.setup.random =
+      sym (behind_append acks (closing_frame id kept s.life ∷ []) s.setup.random ∙ undrawn (closing_frame id kept s.life ∷ []) (behind_tokens acks s.setup.random) none) in
+      let rest : without_all w acks ≡ without_all w all =
+      sym (without_all_append w acks (closing_frame id kept s.life ∷ []) ∙ close_stays (without_all w acks) id kept (is_closed s.life.state) s.life.close) in
+      λ i. record s {
+        waiting = record s.waiting { spaces = with_space s.waiting.spaces id (rest i) };
+        life = told (sym datagrams i);
+        setup = record s.setup { random = words i };
+        lower = sealed_same acks all s.lower (sym steps) (sym datagrams) (sym cids) i;
+      }
 
   -- where the ACK was taken, the close behind it was taken too
   pub close_taken : (s mid : View t) (id : SpaceId) (kept : List ℕ) (acks fs : List FrameValue) → mid ≡ state_move (Take id acks) s → fs ≡ acks ++ closing_frame id kept s.life ∷ [] → mid ≡ state_move (Take id fs) s
@@ -117,16 +127,16 @@ module _ {t : Types} where
   closes_so time s id room kept acks fs part reason is = Closes.closing acks part kept reason is
 
   -- are the frames that this end takes, where a close is owed
-  pub takes_close : (closing first : Bool) (time : ℕ) (s : View t) (id : SpaceId) (form : Form) (room : ℕ) (fs : List FrameValue) → closing ≡ true → id ≡ number_space form → Closes time s id room fs →
-      TakenNow closing first time s (number_space form) room fs
-  takes_close closing first time s id form room fs owed is closes = subst (λ (x : SpaceId). TakenNow closing first time s x room fs) is (TakenNow.a_close owed closes)
+  pub takes_close : (maker : TokenMaker t) (closing first : Bool) (time : ℕ) (s : View t) (id : SpaceId) (form : Form) (room : ℕ) (fs : List FrameValue) → closing ≡ true → id ≡ number_space form → Closes time s id room fs →
+      TakenNow maker closing first time s (number_space form) room fs
+  takes_close maker closing first time s id form room fs owed is closes = subst (λ (x : SpaceId). TakenNow maker closing first time s x room fs) is (TakenNow.a_close owed closes)
 
   -- and else it takes frames that wait
-  pub takes_waiting : (closing first : Bool) (time : ℕ) (s : View t) (id : SpaceId) (form : Form) (room : ℕ) (fs : List FrameValue) → closing ≡ false → id ≡ number_space form →
+  pub takes_waiting : (maker : TokenMaker t) (closing first : Bool) (time : ℕ) (s : View t) (id : SpaceId) (form : Form) (room : ℕ) (fs : List FrameValue) → closing ≡ false → id ≡ number_space form →
       TakenPart time s.waiting.bundled (is_space id «Data») (space_of s.waiting.spaces id) room fs → AllMay (sealed_steps fs) s.lower.streams → AllOldest fs s.lower.datagrams →
-      AllNext fs s.lower.ids → (holds_owed s id fs ≡ true) ⊎ ((first ≡ true) × OwesAckAlone s id) → TakenNow closing first time s (number_space form) room fs
-  takes_waiting closing first time s id form room fs free is part may oldest next some =
-      subst (λ (x : SpaceId). TakenNow closing first time s x room fs) is (TakenNow.what_waits free part may oldest next some)
+      AllNext fs s.lower.ids → AllIssued (made_by maker s.issuer) (socket_ip s.paths.current.remote) fs (space_of s.waiting.spaces id) s.setup.random → (holds_owed s id fs ≡ true) ⊎ ((first ≡ true) × OwesAckAlone s id) → TakenNow maker closing first time s (number_space form) room fs
+  takes_waiting maker closing first time s id form room fs free is part may oldest next issued some =
+      subst (λ (x : SpaceId). TakenNow maker closing first time s x room fs) is (TakenNow.what_waits free part may oldest next issued some)
 
   -- among them is something that is owed, or an ACK is all that is
   pub some_owed : (s : View t) (id : SpaceId) (fs : List FrameValue) (owes first alone makes : Bool) → owes ≡ is_ack_owed (space_of s.waiting.spaces id).acks →
@@ -200,7 +210,7 @@ module _ {t : Types} where
 
   pub bytes_kept : (m : Meaning t) (s : View t) (form : Form) (fs gs : List FrameValue) → packet_bytes m (state_move (Take (number_space form) fs) s) form gs ≡ packet_bytes m s form gs
   unfolding packet_bytes flips_now state_move keys_move setup_move numbers_move
-  bytes_kept m s form fs gs = ap (λ (x : Header). sealed_with m (header_key s.keys form) (packet_key s.keys form) (takes_grease s.setup.peer && bit (behind_spin s.setup form)) x (next_number s.numbers (number_space form)) (frames_spelling gs)) (header_kept s form fs)
+  bytes_kept m s form fs gs = ap (λ (x : Header). sealed_with m (header_key s.keys form) (packet_key s.keys form) (takes_grease s.setup.peer && s.setup.drawn.flip) x (next_number s.numbers (number_space form)) (frames_spelling gs)) (header_kept s form fs)
 
   pub number_kept : (s : View t) (form : Form) (fs : List FrameValue) → (state_move (Take (number_space form) fs) s).numbers ≡ s.numbers
   unfolding state_move numbers_move

@@ -36,7 +36,7 @@ module _ {t : Types} where
   way_next a b c h k = record { remote = k.remote ∙ h.remote; marks = k.marks ∙ h.marks; fixed = k.fixed ∙ h.fixed }
 
   way_move : (x : Move t) → IsPacketMove x → (a : At t) → MayMove x a.state → KeepsWay a (move_to x a)
-  unfolding move_to state_move paths_move setup_move path_kept word_drawn
+  unfolding move_to state_move paths_move setup_move path_kept word_drawn packet_drawn
   way_move (Begin id opens) p a may = record { remote = refl; marks = refl; fixed = refl }
   way_move Skip p a may = record { remote = refl; marks = refl; fixed = refl }
   way_move (Update fresh session) p a may = record { remote = refl; marks = refl; fixed = refl }
@@ -46,7 +46,7 @@ module _ {t : Types} where
 
   way_seal : (time : ℕ) (form : Form) (fs : List FrameValue) (a : At t) → IsSealable time a.state form fs →
       KeepsWay a (move_to (Seal time form (next_number a.state.numbers (number_space form)) (packet_size a.state form fs) fs) (move_to (Take (number_space form) fs) a))
-  unfolding move_to state_move paths_move setup_move packet_drawn
+  unfolding move_to state_move paths_move setup_move
   way_seal time form fs a may = record { remote = refl; marks = refl; fixed = refl }
 
   way_same : (a b : At t) (batch : Batch) → KeepsWay a b → transmit_with b.state batch ≡ transmit_with a.state batch

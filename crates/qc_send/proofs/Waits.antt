@@ -4,37 +4,38 @@ use Rattle.std.proofs.lemmas.Grind.{flat_map-append}
 use Rattle.qc_frame.specs.Frame.{FrameValue}
 use Rattle.qc_frame.specs.FrameFits.{Fits}
 use Rattle.qc_frame.specs.FrameSpelling.{elicits, spelling, frames_spelling}
-use Rattle.qc_frame.specs.declared.frames.FrameOf.TheVariants.{Padding, HandshakeDone, Ping, Ack, Crypto, Stream, ResetStream, StopSending, MaxData, MaxStreamData, MaxStreams, Datagram, NewConnectionId, RetireConnectionId}
+use Rattle.qc_frame.specs.declared.frames.FrameOf.TheVariants.{Padding, HandshakeDone, Ping, Ack, Crypto, Stream, ResetStream, StopSending, MaxData, MaxStreamData, MaxStreams, Datagram, NewConnectionId, RetireConnectionId, NewToken}
 use Rattle.qc_state.specs.Acks.{AckPart, IsLongAck, SaysAck, is_ack, is_ack_first, is_ack_given, is_ack_last, is_ack_owed}
 use Rattle.qc_state.specs.Offers.{wants_sending}
 use Rattle.qc_state.specs.Sending.{LacksAckRoom, holds_owed}
 use Rattle.std.specs.List.{list_any}
 use Rattle.qc_state.specs.declared.waiting.SpaceWaiting.{SpaceWaiting}
-use Rattle.qc_state.proofs.AckLemmas.{first_gives, last_gives, owed_first, part_same}
+use Rattle.qc_state.proofs.AckLemmas.{first_gives, last_gives, owed_first, part_same, says_same}
 use Rattle.qc_cids.specs.Steps as ids
 use Rattle.qc_cids.specs.declared.connection_ids.ConnectionIds.{ConnectionIds}
 use Rattle.qc_datagrams.specs.Steps as posts
 use Rattle.qc_datagrams.specs.declared.datagrams.Datagrams.{Datagrams}
+use Rattle.rand_core.specs.Stream.{Stream as Words}
 use Rattle.qc_state.proofs.DatagramSteps.{taken_datagrams}
 use Rattle.qc_state.proofs.IdSteps.{taken_cids}
 use Rattle.qc_state.proofs.OffersTaken.{frames_sealed_append}
 use Rattle.qc_state.proofs.RoomTold.{same_heard, told_twice}
-use Rattle.qc_state.proofs.Taken.{front_cids, front_datagrams, front_steps, last_counts, last_same, offered_stays, own_next, own_oldest, part_steps, marks_size}
+use Rattle.qc_state.proofs.Issued.{behind_append, undrawn}
+use Rattle.qc_state.proofs.Taken.{Beside, front_cids, front_datagrams, front_steps, front_tokens, last_counts, last_same, offered_leaves, own_issued, own_next, own_oldest, part_steps, marks_size}
+use Rattle.qc_state.specs.Tokens.{AllIssued, IsIssued, behind_frame, behind_tokens, made_by}
+use Rattle.std.specs.Net.Socket.{socket_ip}
 use Rattle.qc_state.specs.Allowed.{Waits, WaitAll}
 use Rattle.qc_state.specs.Datagrams.{AllOldest, IsOldest, sealed_datagrams, told_by_all}
 use Rattle.qc_state.specs.Ids.{AllNext, IsNext, sealed_cids}
-use Rattle.qc_state.specs.Life.{more_heard}
 use Rattle.qc_state.specs.Lower.{datagrams_stepped, frames_sealed, ids_stepped, streams_stepped}
 use Rattle.qc_state.specs.Moves.{Take, state_move, numbers_move, keys_move, life_move, paths_move, timers_move, waiting_move, setup_move, lower_move}
 use Rattle.qc_state.specs.Spaces.{is_space, space_of, with_space}
 use Rattle.qc_state.specs.StreamFrames.{sealed_step, sealed_steps}
 use Rattle.qc_state.specs.Taking.{AreOffered, marks_part, done_part, ping_part, is_offered_frame, CryptoPart, TakenPart}
-use Rattle.qc_state.specs.Types.{Types}
+use Rattle.qc_state.specs.Types.{TokenMaker, Types}
 use Rattle.qc_state.specs.View.{View}
 use Rattle.qc_state.specs.Waiting.{StartsWith, without, without_all, crypto_waits, waiting_without, wants_here}
 use Rattle.qc_state.specs.declared.life.Life.{Life}
-use Rattle.qc_state.specs.declared.lower.Lower.{Lower}
-use Rattle.qc_state.specs.declared.waiting.Waiting.{Waiting}
 use Rattle.qc_send.specs.Taking.{OwesAckAlone}
 use Rattle.qc_streams.specs.Steps.{AllMay, IsSealedSo}
 use Rattle.qc_streams.specs.Waits.{Step, after}
@@ -102,6 +103,16 @@ last_waits time room rest left bundled true w v acks crypto last same counts par
     ack_waits time left bundled u last true (part_same time left w u last true (sym before) (sym (last_counts time room rest w v acks crypto (is_ack_first w.acks) counts part bytes)) bundle)
     (λ _. ap (is_ack_given time bundled) before ∙ last_gives time bundled w.acks e)
 last_waits time room rest left bundled false w v acks crypto last same counts part bytes e (AckPart.none is) = subst (λ (x : List FrameValue). HereAll time bundled (without_all (without_all v acks) crypto) x) (sym is) tt
+
+-- so it does in each space with the same numbers and counts
+acks_beside : (time room : ℕ) (bundled : Option ℕ) (x w v : SpaceWaiting) (acks : List FrameValue) (b : Bool) → AckPart time x room acks b → w.acks ≡ v.acks → w.marks ≡ v.marks → HereAll time bundled w acks →
+    HereAll time bundled v acks
+unfolding HereAll Here
+acks_beside time room bundled x w v acks true (AckPart.one ack says fits is) same marks h =
+    let one = subst (λ (fs : List FrameValue). HereAll time bundled w fs) is h in
+    subst (λ (fs : List FrameValue). HereAll time bundled v fs) (sym is) ((ap (is_ack_given time bundled) (sym same) ∙ one.0.0, says_same time w v ack same marks one.0.1), tt)
+acks_beside time room bundled x w v acks true (AckPart.left_out ack says long is) same marks h = subst (λ (fs : List FrameValue). HereAll time bundled v fs) (sym is) tt
+acks_beside time room bundled x w v acks false (AckPart.none is) same marks h = subst (λ (fs : List FrameValue). HereAll time bundled v fs) (sym is) tt
 
 -- the HANDSHAKE_DONE and the PING, each where it waits
 abbrev marks_of : (done ping : Bool) → List FrameValue
@@ -224,29 +235,9 @@ is_data Handshake h = cc
 is_data Data h = refl
 
 module _ {t : Types} where
-  -- a frame that waits in the waiting group waits
-  here_waits : (time : ℕ) (s : View t) (id : SpaceId) (f : FrameValue) → Here time s.waiting.bundled (space_of s.waiting.spaces id) f → Waits time s id f
-  unfolding Here Waits
-  here_waits time s id HandshakeDone h = h
-  here_waits time s id Ping h = h
-  here_waits time s id (Ack ack) h = h
-  here_waits time s id (Crypto offset body) h = h
-  here_waits time s id _ h = absurd h
-
   bundled_stays : (id : SpaceId) (f : FrameValue) (s : View t) → (state_move (Take id (f ∷ [])) s).waiting.bundled ≡ s.waiting.bundled
   unfolding state_move waiting_move waiting_without
   bundled_stays id f s = refl
-
-  here_all : (time : ℕ) (s : View t) (id : SpaceId) (fs : List FrameValue) → HereAll time s.waiting.bundled (space_of s.waiting.spaces id) fs → WaitAll time s id fs
-  unfolding HereAll WaitAll
-  here_all time s id [] h = tt
-  here_all time s id (f ∷ fs) h =
-      let v : View t = state_move (Take id (f ∷ [])) s in (
-        here_waits time s id f h.0,
-        here_all time v id fs
-            (subst (λ (w : SpaceWaiting). HereAll time v.waiting.bundled w fs) (sym (taken_space id f s))
-            (subst (λ (b : Option ℕ). HereAll time b (without (space_of s.waiting.spaces id) f) fs) (sym (bundled_stays id f s)) h.1)),
-      )
 
   -- ---- joined lists
 
@@ -260,65 +251,27 @@ module _ {t : Types} where
   taken_twice : (id : SpaceId) (fs gs : List FrameValue) (s : View t) → state_move (Take id gs) (state_move (Take id fs) s) ≡ state_move (Take id (fs ++ gs)) s
   unfolding state_move numbers_move keys_move life_move paths_move timers_move waiting_move setup_move lower_move frames_sealed streams_stepped datagrams_stepped ids_stepped
   taken_twice id fs gs s =
-      let d : Datagrams = s.lower.datagrams in
-      let twice : Life = more_heard (told_by_all (sealed_datagrams gs) (posts.after (sealed_datagrams fs) d)) (more_heard (told_by_all (sealed_datagrams fs) d) s.life) in
-      ap (λ (w : Waiting). record s { waiting = w; life = twice; lower = frames_sealed gs (frames_sealed fs s.lower) }) (taken_twice_waiting id fs gs s)
-      ∙ ap (λ (v : Life). record s { waiting = waiting_without s.waiting id (fs ++ gs); life = v; lower = frames_sealed gs (frames_sealed fs s.lower) }) (told_twice fs gs d s.life)
-      ∙ ap (λ (l : Lower t.S). record s { waiting = waiting_without s.waiting id (fs ++ gs); life = more_heard (told_by_all (sealed_datagrams (fs ++ gs)) d) s.life; lower = l })
-      (sym (frames_sealed_append fs gs s.lower))
+      λ i. record s {
+        waiting = taken_twice_waiting id fs gs s i;
+        life = told_twice fs gs s.lower.datagrams s.life i;
+        setup = record s.setup { random = sym (behind_append fs gs s.setup.random) i };
+        lower = sym (frames_sealed_append fs gs s.lower) i;
+      }
 
   nothing_taken : (id : SpaceId) (s : View t) → state_move (Take id []) s ≡ s
-  unfolding state_move numbers_move keys_move life_move paths_move timers_move waiting_move setup_move lower_move frames_sealed streams_stepped datagrams_stepped ids_stepped waiting_without without_all sealed_steps sealed_datagrams sealed_cids after posts.after ids.after told_by_all
+  unfolding state_move numbers_move keys_move life_move paths_move timers_move waiting_move setup_move lower_move frames_sealed streams_stepped datagrams_stepped ids_stepped waiting_without without_all behind_tokens sealed_steps sealed_datagrams sealed_cids after posts.after ids.after told_by_all
   nothing_taken Initial s = ap (λ (v : Life). record s { life = v }) (sym (same_heard s.life))
   nothing_taken Handshake s = ap (λ (v : Life). record s { life = v }) (sym (same_heard s.life))
   nothing_taken Data s = ap (λ (v : Life). record s { life = v }) (sym (same_heard s.life))
-
-  -- joined lists wait, where the second one waits behind the first
-  wait_append : (time : ℕ) (s : View t) (id : SpaceId) (fs gs : List FrameValue) → WaitAll time s id fs → WaitAll time (state_move (Take id fs) s) id gs → WaitAll time s id (fs ++ gs)
-  unfolding WaitAll
-  wait_append time s id [] gs a b = subst (λ (v : View t). WaitAll time v id gs) (nothing_taken id s) b
-  wait_append time s id (f ∷ fs) gs a b =
-      let v : View t = state_move (Take id (f ∷ [])) s in
-      (a.0, wait_append time v id fs gs a.1 (subst (λ (x : View t). WaitAll time x id gs) (sym (taken_twice id (f ∷ []) fs s)) b))
-
-  -- ---- frames that the layers below offer
 
   -- what one leaves of the streams
   one_taken : (id : SpaceId) (f : FrameValue) (s : View t) → (state_move (Take id (f ∷ [])) s).lower.streams ≡ after (sealed_step f) s.lower.streams
   unfolding state_move lower_move frames_sealed streams_stepped datagrams_stepped ids_stepped sealed_steps
   one_taken id f s = ap (λ (xs : List Step). after xs s.lower.streams) (append-nil (sealed_step f))
 
-  -- one of them waits, where the step of the streams that it is may be made, or it is a DATAGRAM with the oldest datagram, or the next one
-  -- about connection ids
-  own_waits : (time : ℕ) (s : View t) (id : SpaceId) (f : FrameValue) (xs : List Step) → is_space id «Data» ≡ true → is_offered_frame f ≡ true → Fits f → AllMay (sealed_step f ++ xs) s.lower.streams →
-      IsOldest f s.lower.datagrams → IsNext f s.lower.ids → Waits time s id f × AllMay xs (after (sealed_step f) s.lower.streams)
-  unfolding Waits AllMay IsSealedSo after
-  own_waits time s id (Stream stream offset fin body) xs is own fits may oldest next = ((is_data id is, may.0.sealed, fits), may.1)
-  own_waits time s id (ResetStream stream code size) xs is own fits may oldest next = ((is_data id is, may.0.sealed, fits), may.1)
-  own_waits time s id (StopSending stream code) xs is own fits may oldest next = ((is_data id is, may.0.sealed, fits), may.1)
-  own_waits time s id (MaxData limit) xs is own fits may oldest next = ((is_data id is, may.0.sealed, fits), may.1)
-  own_waits time s id (MaxStreamData stream limit) xs is own fits may oldest next = ((is_data id is, may.0.sealed, fits), may.1)
-  own_waits time s id (MaxStreams dir limit) xs is own fits may oldest next = ((is_data id is, may.0.sealed, fits), may.1)
-  own_waits time s id (Datagram body) xs is own fits may oldest next = ((is_data id is, oldest, fits), may)
-  own_waits time s id (NewConnectionId new) xs is own fits may oldest next = ((is_data id is, next, fits), may)
-  own_waits time s id (RetireConnectionId sequence) xs is own fits may oldest next = ((is_data id is, next), may)
-  own_waits time s id _ xs is own fits may oldest next = cc
+  -- ---- frames in front of those that the layers below offer
 
-  own_wait : (time : ℕ) (s : View t) (id : SpaceId) (fs : List FrameValue) → AreOffered (is_space id «Data») fs → AllMay (sealed_steps fs) s.lower.streams → AllOldest fs s.lower.datagrams →
-      AllNext fs s.lower.ids → WaitAll time s id fs
-  unfolding WaitAll sealed_steps AllOldest AllNext
-  own_wait time s id [] are may oldest next = tt
-  own_wait time s id (f ∷ fs) are may oldest next =
-      let first : Waits time s id f × AllMay (sealed_steps fs) (after (sealed_step f) s.lower.streams) = own_waits time s id f (sealed_steps fs) are.0 are.1 are.2 may oldest.0 next.0 in (
-        first.0,
-        own_wait time (state_move (Take id (f ∷ [])) s) id fs are.3 (subst (λ (x : StreamsState). AllMay (sealed_steps fs) x) (sym (one_taken id f s)) first.1)
-            (subst (λ (x : Datagrams). AllOldest fs x) (sym (taken_datagrams id f s)) oldest.1)
-            (subst (λ (x : ConnectionIds). AllNext fs x) (sym (taken_cids id f s)) next.1),
-      )
-
-  -- ---- all frames
-
-  -- those in front of the frames that the layers below offer are no steps of the streams, nor of the datagrams, nor of the connection ids
+  -- they are no steps of the streams, nor of the datagrams, nor of the connection ids
   front_streams : (time : ℕ) (bundled : Option ℕ) (in_data : Bool) (w : SpaceWaiting) (id : SpaceId) (room : ℕ) (fs : List FrameValue) (s : View t) → (taken : TakenPart time bundled in_data w room fs) →
       (state_move (Take id (front_of w taken.acks taken.crypto)) s).lower.streams ≡ s.lower.streams
   unfolding state_move lower_move frames_sealed streams_stepped datagrams_stepped ids_stepped after
@@ -334,27 +287,106 @@ module _ {t : Types} where
   unfolding state_move lower_move frames_sealed streams_stepped datagrams_stepped ids_stepped ids.after
   front_ids time bundled in_data w id room fs s taken = ap (λ (xs : List ids.Step). ids.after xs s.lower.ids) (front_cids time bundled in_data w room fs taken)
 
-  -- what waits of a space behind frames that the layers below offer
-  own_space : (id : SpaceId) (fs own : List FrameValue) (s : View t) (w : SpaceWaiting) → AreOffered (is_space id «Data») own → w ≡ space_of s.waiting.spaces id →
-      space_of (state_move (Take id (fs ++ own)) s).waiting.spaces id ≡ without_all w fs
+  -- what waits of a space behind frames
+  space_behind : (id : SpaceId) (fs : List FrameValue) (s : View t) → space_of (state_move (Take id fs) s).waiting.spaces id ≡ without_all (space_of s.waiting.spaces id) fs
   unfolding state_move waiting_move waiting_without
-  own_space id fs own s w are is =
-      space_again id (fs ++ own) s ∙ without_all_append (space_of s.waiting.spaces id) fs own ∙ offered_stays (is_space id «Data») (without_all (space_of s.waiting.spaces id) fs) own are
-      ∙ ap (λ (x : SpaceWaiting). without_all x fs) (sym is)
-    where
-      space_again : (id : SpaceId) (gs : List FrameValue) (s : View t) → space_of (with_space s.waiting.spaces id (without_all (space_of s.waiting.spaces id) gs)) id ≡ without_all (space_of s.waiting.spaces id) gs
-      space_again Initial gs s = refl
-      space_again Handshake gs s = refl
-      space_again Data gs s = refl
+  space_behind Initial fs s = refl
+  space_behind Handshake fs s = refl
+  space_behind Data fs s = refl
 
   bundled_all : (id : SpaceId) (fs : List FrameValue) (s : View t) → (state_move (Take id fs) s).waiting.bundled ≡ s.waiting.bundled
   unfolding state_move waiting_move waiting_without
   bundled_all id fs s = refl
 
+-- ---- where this makes the tokens
+
+module _ {t : Types} (maker : TokenMaker t) where
+  -- a frame that waits in the waiting group waits
+  here_waits : (time : ℕ) (s : View t) (id : SpaceId) (f : FrameValue) → Here time s.waiting.bundled (space_of s.waiting.spaces id) f → Waits maker time s id f
+  unfolding Here Waits
+  here_waits time s id HandshakeDone h = h
+  here_waits time s id Ping h = h
+  here_waits time s id (Ack ack) h = h
+  here_waits time s id (Crypto offset body) h = h
+  here_waits time s id _ h = absurd h
+
+  here_all : (time : ℕ) (s : View t) (id : SpaceId) (fs : List FrameValue) → HereAll time s.waiting.bundled (space_of s.waiting.spaces id) fs → WaitAll maker time s id fs
+  unfolding HereAll WaitAll
+  here_all time s id [] h = tt
+  here_all time s id (f ∷ fs) h =
+      let v : View t = state_move (Take id (f ∷ [])) s in (
+        here_waits time s id f h.0,
+        here_all time v id fs
+            (subst (λ (w : SpaceWaiting). HereAll time v.waiting.bundled w fs) (sym (taken_space id f s))
+            (subst (λ (b : Option ℕ). HereAll time b (without (space_of s.waiting.spaces id) f) fs) (sym (bundled_stays id f s)) h.1)),
+      )
+
+  -- joined lists wait, where the second one waits behind the first
+  wait_append : (time : ℕ) (s : View t) (id : SpaceId) (fs gs : List FrameValue) → WaitAll maker time s id fs → WaitAll maker time (state_move (Take id fs) s) id gs → WaitAll maker time s id (fs ++ gs)
+  unfolding WaitAll
+  wait_append time s id [] gs a b = subst (λ (v : View t). WaitAll maker time v id gs) (nothing_taken id s) b
+  wait_append time s id (f ∷ fs) gs a b =
+      let v : View t = state_move (Take id (f ∷ [])) s in
+      (a.0, wait_append time v id fs gs a.1 (subst (λ (x : View t). WaitAll maker time x id gs) (sym (taken_twice id (f ∷ []) fs s)) b))
+
+  -- one of them waits, where the step of the streams that it is may be made, or it is a DATAGRAM with the oldest datagram, the next one
+  -- about connection ids, or a NEW_TOKEN with a token that is made then
+  own_waits : (time : ℕ) (s : View t) (id : SpaceId) (f : FrameValue) (xs : List Step) → is_space id «Data» ≡ true → is_offered_frame f ≡ true → Fits f → AllMay (sealed_step f ++ xs) s.lower.streams →
+      IsOldest f s.lower.datagrams → IsNext f s.lower.ids → IsIssued (made_by maker s.issuer) (socket_ip s.paths.current.remote) f (space_of s.waiting.spaces id).tokens s.setup.random →
+      Waits maker time s id f × AllMay xs (after (sealed_step f) s.lower.streams)
+  unfolding Waits AllMay IsSealedSo after
+  own_waits time s id (Stream stream offset fin body) xs is own fits may oldest next issued = ((is_data id is, may.0.sealed, fits), may.1)
+  own_waits time s id (ResetStream stream code size) xs is own fits may oldest next issued = ((is_data id is, may.0.sealed, fits), may.1)
+  own_waits time s id (StopSending stream code) xs is own fits may oldest next issued = ((is_data id is, may.0.sealed, fits), may.1)
+  own_waits time s id (MaxData limit) xs is own fits may oldest next issued = ((is_data id is, may.0.sealed, fits), may.1)
+  own_waits time s id (MaxStreamData stream limit) xs is own fits may oldest next issued = ((is_data id is, may.0.sealed, fits), may.1)
+  own_waits time s id (MaxStreams dir limit) xs is own fits may oldest next issued = ((is_data id is, may.0.sealed, fits), may.1)
+  own_waits time s id (Datagram body) xs is own fits may oldest next issued = ((is_data id is, oldest, fits), may)
+  own_waits time s id (NewToken token) xs is own fits may oldest next issued = ((is_data id is, issued.0, issued.1, fits), may)
+  own_waits time s id (NewConnectionId new) xs is own fits may oldest next issued = ((is_data id is, next, fits), may)
+  own_waits time s id (RetireConnectionId sequence) xs is own fits may oldest next issued = ((is_data id is, next), may)
+  own_waits time s id _ xs is own fits may oldest next issued = cc
+
+  -- what a frame that is taken leaves of what tokens are made with
+  issued_still : (id : SpaceId) (f : FrameValue) (fs : List FrameValue) (s : View t) → AllIssued (made_by maker s.issuer) (socket_ip s.paths.current.remote) fs (without (space_of s.waiting.spaces id) f) (behind_frame f s.setup.random) →
+      AllIssued (made_by maker (state_move (Take id (f ∷ [])) s).issuer) (socket_ip (state_move (Take id (f ∷ [])) s).paths.current.remote) fs (space_of (state_move (Take id (f ∷ [])) s).waiting.spaces id)
+      (state_move (Take id (f ∷ [])) s).setup.random
+  unfolding state_move paths_move setup_move behind_tokens
+  issued_still id f fs s h = subst (λ (w : SpaceWaiting). AllIssued (made_by maker s.issuer) (socket_ip s.paths.current.remote) fs w (behind_frame f s.setup.random)) (sym (taken_space id f s)) h
+
+  own_wait : (time : ℕ) (s : View t) (id : SpaceId) (fs : List FrameValue) → AreOffered (is_space id «Data») fs → AllMay (sealed_steps fs) s.lower.streams → AllOldest fs s.lower.datagrams →
+      AllNext fs s.lower.ids → AllIssued (made_by maker s.issuer) (socket_ip s.paths.current.remote) fs (space_of s.waiting.spaces id) s.setup.random → WaitAll maker time s id fs
+  unfolding WaitAll sealed_steps AllOldest AllNext AllIssued
+  own_wait time s id [] are may oldest next issued = tt
+  own_wait time s id (f ∷ fs) are may oldest next issued =
+      let first : Waits maker time s id f × AllMay (sealed_steps fs) (after (sealed_step f) s.lower.streams) = own_waits time s id f (sealed_steps fs) are.0 are.1 are.2 may oldest.0 next.0 issued.0 in (
+        first.0,
+        own_wait time (state_move (Take id (f ∷ [])) s) id fs are.3 (subst (λ (x : StreamsState). AllMay (sealed_steps fs) x) (sym (one_taken id f s)) first.1)
+            (subst (λ (x : Datagrams). AllOldest fs x) (sym (taken_datagrams id f s)) oldest.1)
+            (subst (λ (x : ConnectionIds). AllNext fs x) (sym (taken_cids id f s)) next.1)
+            (issued_still id f fs s issued.1),
+      )
+
+  -- behind those in front of the frames that the layers below offer, tokens are made as they are before
+  front_issued : (time : ℕ) (bundled : Option ℕ) (in_data : Bool) (id : SpaceId) (room : ℕ) (fs : List FrameValue) (s : View t) → (taken : TakenPart time bundled in_data (space_of s.waiting.spaces id) room fs) →
+      AllIssued (made_by maker s.issuer) (socket_ip s.paths.current.remote) fs (space_of s.waiting.spaces id) s.setup.random →
+      let v : View t = state_move (Take id (front_of (space_of s.waiting.spaces id) taken.acks taken.crypto)) s in
+      AllIssued (made_by maker v.issuer) (socket_ip v.paths.current.remote) taken.own (space_of v.waiting.spaces id) v.setup.random
+  unfolding state_move paths_move setup_move
+  front_issued time bundled in_data id room fs s taken h =
+      let w : SpaceWaiting = space_of s.waiting.spaces id in
+      let front : List FrameValue = front_of w taken.acks taken.crypto in
+      let own : AllIssued (made_by maker s.issuer) (socket_ip s.paths.current.remote) taken.own (without_all w front) s.setup.random =
+      own_issued (made_by maker s.issuer) (socket_ip s.paths.current.remote) s.setup.random time bundled in_data w room fs taken h in
+      subst (λ (x : SpaceWaiting). AllIssued (made_by maker s.issuer) (socket_ip s.paths.current.remote) taken.own x (behind_tokens front s.setup.random)) (sym (space_behind id front s))
+      (subst (λ (r : Words). AllIssued (made_by maker s.issuer) (socket_ip s.paths.current.remote) taken.own (without_all w front) r)
+      (sym (undrawn front s.setup.random (front_tokens time bundled in_data w room fs taken))) own)
+
   -- the frames that this end takes in a space wait there
   pub taken_wait : (time : ℕ) (s : View t) (id : SpaceId) (room : ℕ) (fs : List FrameValue) → TakenPart time s.waiting.bundled (is_space id «Data») (space_of s.waiting.spaces id) room fs →
-      AllMay (sealed_steps fs) s.lower.streams → AllOldest fs s.lower.datagrams → AllNext fs s.lower.ids → WaitAll time s id fs
-  taken_wait time s id room fs taken may oldest next =
+      AllMay (sealed_steps fs) s.lower.streams → AllOldest fs s.lower.datagrams → AllNext fs s.lower.ids →
+      AllIssued (made_by maker s.issuer) (socket_ip s.paths.current.remote) fs (space_of s.waiting.spaces id) s.setup.random → WaitAll maker time s id fs
+  taken_wait time s id room fs taken may oldest next issued =
       let w : SpaceWaiting = space_of s.waiting.spaces id in
       let front : List FrameValue = front_of w taken.acks taken.crypto in
       let here = taken_waits time s.waiting.bundled (is_space id «Data») w room fs taken in
@@ -369,13 +401,20 @@ module _ {t : Types} where
       let nexts : AllNext taken.own v.lower.ids =
       subst (λ (x : ConnectionIds). AllNext taken.own x) (sym (front_ids time s.waiting.bundled (is_space id «Data») w id room fs s taken))
       (own_next time s.waiting.bundled (is_space id «Data») w room fs s.lower.ids taken next) in
-      let own_all : WaitAll time s id (front ++ taken.own) = wait_append time s id front taken.own (here_all time s id front here.0) (own_wait time v id taken.own taken.offered own_may turns nexts) in
+      let made : AllIssued (made_by maker v.issuer) (socket_ip v.paths.current.remote) taken.own (space_of v.waiting.spaces id) v.setup.random =
+      front_issued time s.waiting.bundled (is_space id «Data») id room fs s taken issued in
+      let own_all : WaitAll maker time s id (front ++ taken.own) = wait_append time s id front taken.own (here_all time s id front here.0) (own_wait time v id taken.own taken.offered own_may turns nexts made) in
+      let leaves : Beside (without_all w front) (without_all (without_all w front) taken.own) = offered_leaves (is_space id «Data») (without_all w front) taken.own taken.offered in
+      let behind : HereAll time s.waiting.bundled (without_all (without_all w front) taken.own) taken.last =
+      acks_beside time taken.left s.waiting.bundled w (without_all w front) (without_all (without_all w front) taken.own) taken.last (is_ack_last time s.waiting.bundled w.acks) taken.bundle
+      (sym leaves.acks) (sym leaves.marks) here.1 in
       let last : HereAll time u.waiting.bundled (space_of u.waiting.spaces id) taken.last =
       subst (λ (b : Option ℕ). HereAll time b (space_of u.waiting.spaces id) taken.last) (sym (bundled_all id (front ++ taken.own) s))
-      (subst (λ (x : SpaceWaiting). HereAll time s.waiting.bundled x taken.last) (sym (own_space id front taken.own s w taken.offered refl)) here.1) in
-      subst (λ (x : List FrameValue). WaitAll time s id x) (sym (taken.all ∙ simp append_assoc))
+      (subst (λ (x : SpaceWaiting). HereAll time s.waiting.bundled x taken.last) (sym (space_behind id (front ++ taken.own) s ∙ without_all_append w front taken.own)) behind) in
+      subst (λ (x : List FrameValue). WaitAll maker time s id x) (sym (taken.all ∙ simp append_assoc))
       (wait_append time s id (front ++ taken.own) taken.last own_all (here_all time u id taken.last last))
 
+module _ {t : Types} where
   -- among the frames that this end takes is something that is owed; or an ACK alone is owed, which has no room
   pub taken_owed : (first : Bool) (time : ℕ) (s : View t) (id : SpaceId) (room : ℕ) (fs : List FrameValue) → TakenPart time s.waiting.bundled (is_space id «Data») (space_of s.waiting.spaces id) room fs →
       (holds_owed s id fs ≡ true) ⊎ ((first ≡ true) × OwesAckAlone s id) → (holds_owed s id fs ≡ true) ⊎ ((first ≡ true) × LacksAckRoom time s id room)

@@ -1,5 +1,5 @@
 -- What follows a packet, and how this end finds it: these are this crate's own words, and the contract of a transmit has none of them.
-use Rattle.std.specs.Prelude.{◌≡◌, ℕ, ◌+◌, ◌-◌, ◌<◌, ◌≤◌, ◌⊎◌, Bool, true, false, ◌||◌, ◌&&◌, not, nat_lt, nat_le, if◌then◌else◌, Option, Some, None}
+use Rattle.std.specs.Prelude.{◌≡◌, ℕ, ◌+◌, ◌-◌, ◌<◌, ◌≤◌, ◌⊎◌, Bool, true, false, ◌||◌, ◌&&◌, ◌==◌, not, nat_lt, nat_le, if◌then◌else◌, Option, Some, None}
 use Rattle.qc_base.specs.declared.side.SpaceId.{SpaceId}
 use Rattle.qc_base.specs.declared.side.SpaceId.TheVariants.{Initial, Handshake, «Data»}
 use Rattle.qc_send.specs.declared.joining.Further.{Further}
@@ -13,12 +13,12 @@ use Rattle.qc_state.specs.declared.deeds.Quiet.{Quiet}
 use Rattle.qc_state.specs.declared.deeds.Quiet.TheVariants.{Congestion, Pacing}
 use Rattle.qc_state.specs.declared.transmit.Batch.{Batch}
 use Rattle.qc_state.specs.declared.transmit.TheConstants.{JOINING_SIZE}
-use Rattle.qc_state.specs.Acks.{IsLongAck, is_ack_owed}
+use Rattle.qc_state.specs.Acks.{IsLongAck, IsShortAck, is_ack_owed}
 use Rattle.qc_state.specs.Keys.{form_in}
 use Rattle.qc_state.specs.Life.{is_drained, is_open}
 use Rattle.qc_state.specs.Offers.{datagram_fits, wants_sending}
 use Rattle.qc_state.specs.Batches.{IsBehind, is_done, is_in_order, is_whole, next_segment, takes_another, wanted_size}
-use Rattle.qc_state.specs.Sending.{Dies, HasTurn, IsEnded, IsHeld, MayStand, begun_view, owes_in, room_of}
+use Rattle.qc_state.specs.Sending.{Dies, HasTurn, IsEnded, IsHeld, MayStand, begun_view, is_used_up, owes_in, room_of}
 use Rattle.qc_state.specs.Spaces.{is_space, space_of}
 use Rattle.qc_state.specs.Types.{Types, Meaning}
 use Rattle.qc_state.specs.View.{View}
@@ -171,18 +171,26 @@ module _ {t : Types} where
     pub ack : is_ack_owed (space_of s.waiting.spaces id).acks ≡ true → IsLongAck time (space_of s.waiting.spaces id) (room_of left (begun_view s id false) (form_in s.keys id))
     pub datagram : datagram_fits id (room_of left (begun_view s id false) (form_in s.keys id)) s ≡ false
 
+  -- a packet of a space has something of what it owes in so many bytes: it closes; something waits that has room wherever a packet joins, or its
+  -- number can't be spelled, so that the connection ends as it is to begin; or a datagram of the application has room, or the ACK that is owed
+  pub data HasIn (closing : Bool) (time left : ℕ) (s : View t) (id : SpaceId) : Type 0 where
+    closes : closing ≡ true → HasIn closing time left s id
+    waits : (wants_sending s id || (not ((space_of s.waiting.spaces id).probes == 0) || is_used_up s id)) ≡ true → HasIn closing time left s id
+    datagram : datagram_fits id (room_of left (begun_view s id false) (form_in s.keys id)) s ≡ true → HasIn closing time left s id
+    ack : is_ack_owed (space_of s.waiting.spaces id).acks ≡ true → IsShortAck time (space_of s.waiting.spaces id) (room_of left (begun_view s id false) (form_in s.keys id)) → HasIn closing time left s id
+
   -- why no packet of a space joins the open datagram: the space is no later one, or owes nothing, or nothing that has room
   abbrev pub StaysOut : (time : ℕ) → View t → Batch → SpaceId → Type 0
   StaysOut time s b id = is_later b.space id ≡ true → (owes_in b s id ≡ false) ⊎ LacksIn time (b.capacity - b.filled) s id
 
-  -- a packet of a space joins, or doesn't
+  -- a packet of a space joins, since that is a later one, and owes something that has room; or it doesn't
   abbrev pub JoinsIs : (time : ℕ) → View t → Batch → SpaceId → (joins : Bool) → Type 0
-  JoinsIs time s b id true = (is_later b.space id ≡ true) × (owes_in b s id ≡ true)
+  JoinsIs time s b id true = (is_later b.space id ≡ true) × (owes_in b s id ≡ true) × HasIn b.closing time (b.capacity - b.filled) s id
   JoinsIs time s b id false = StaysOut time s b id
 
   -- which packet joins; or why none does
   abbrev pub JoiningIs : (time : ℕ) → View t → Batch → (next : Option SpaceId) → Type 0
-  JoiningIs time s b (Some id) = (joins_more b ≡ true) × (is_later b.space id ≡ true) × (owes_in b s id ≡ true)
+  JoiningIs time s b (Some id) = (joins_more b ≡ true) × (is_later b.space id ≡ true) × (owes_in b s id ≡ true) × HasIn b.closing time (b.capacity - b.filled) s id
   JoiningIs time s b None = (joins_more b ≡ false) ⊎ ((id : SpaceId) → StaysOut time s b id)
 
   -- the space owes something, and its packet may begin a datagram behind the last packet
@@ -221,9 +229,9 @@ module _ {t : Types} where
   FilledIs m time s b None = IsFull time s b
   FilledIs m time s b (Some dying) = Dies m time s b dying.form dying.why
 
-  -- what follows a datagram that no packet joins any more
+  -- what follows a datagram that no packet joins any more: a further one begins for what has room in it
   abbrev pub FurtherIs : Meaning t → (time : ℕ) → View t → Batch → Further → Type 0
-  FurtherIs m time s b (further.Begins id) = MayTake m time s b id true
+  FurtherIs m time s b (further.Begins id) = MayTake m time s b id true × HasIn b.closing time (next_segment b) s id
   FurtherIs m time s b further.Paced = IsHeld m time s b
   FurtherIs m time s b further.Ends = Unit {0}
   FurtherIs m time s b further.Passes = Unit {0}

@@ -1,5 +1,5 @@
 pub mod Choosing
-pub mod Drawing
+pub mod Headers
 pub mod Ending
 pub mod Failing
 pub mod Filling

@@ -1,7 +1,7 @@
 //! What follows a packet: another one in its datagram, a further datagram, or the end of the transmit.
 
 ghost use Rattle.std.specs.Prelude.{◌≡◌, ◌==◌, ◌||◌, not, true, false, IfOk};
-ghost use Rattle.qc_send.specs.Joining.{FurtherIs, IsFull, JoiningIs, JoinsIs, LacksIn, begins_behind, further_by, goes_on, is_later, is_small, joins_more, passes};
+ghost use Rattle.qc_send.specs.Joining.{FurtherIs, HasIn, IsFull, JoiningIs, JoinsIs, LacksIn, begins_behind, further_by, goes_on, is_later, is_small, joins_more, passes};
 ghost use Rattle.qc_state.specs.Keys.{form_in};
 ghost use Rattle.qc_state.specs.Offers.{wants_sending};
 ghost use Rattle.qc_state.specs.Batches.{is_in_order};
@@ -70,9 +70,8 @@ fn is_in_order(last: Option<SpaceId>, space: SpaceId) -> bool
     }
 }
 
-/// How much room for frames a packet of the space, whose next number can be spelled, has in so many bytes, once it is begun.
+/// How much room for frames a packet of the space has in so many bytes, once it is begun.
 fn room_for<U: Suite>(core: &Core<U>, left: usize, space: SpaceId) -> usize
-    requires { is_used_up (ideal U.Random.stream core.now) space ≡ false }
     ensures { result ≡ room_of left (begun_view (ideal U.Random.stream core.now) space false) (form_in core.now.keys space) }
 {
     match space {
@@ -109,7 +108,8 @@ fn holds<U: Suite>(
     left: usize,
     space: SpaceId,
 ) -> Result<bool, AllocError>
-    ensures { IfOk result (λ some. some ≡ false → LacksIn now left (ideal U.Random.stream core.now) space) }
+    ensures lacks { IfOk result (λ some. some ≡ false → LacksIn now left (ideal U.Random.stream core.now) space) }
+    ensures has { IfOk result (λ some. some ≡ true → HasIn closing now left (ideal U.Random.stream core.now) space) }
 {
     if closing {
         return Ok(true);

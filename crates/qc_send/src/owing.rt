@@ -1,11 +1,10 @@
 //! What is owed, in which space, and when nothing is sent.
 
-ghost use Rattle.std.specs.Prelude.{◌≡◌, ◌-◌, ◌<◌, ◌^◌, ◌==◌, not, false, nat_lt, None, IfOk};
-ghost use Rattle.qc_base.specs.declared.side.SpaceId.TheVariants.{Initial};
-ghost use Rattle.qc_state.specs.Acks.{IsLongAck, is_ack_owed};
+ghost use Rattle.std.specs.Prelude.{◌≡◌, ◌==◌, not, true, false, nat_lt, None, IfOk};
+ghost use Rattle.qc_state.specs.Acks.{IsLongAck, IsShortAck, is_ack_owed, may_acknowledge};
 ghost use Rattle.qc_state.specs.Forms.{number_space};
 ghost use Rattle.qc_state.specs.Keys.{form_in};
-ghost use Rattle.qc_state.specs.Numbers.{acked_number, next_number};
+ghost use Rattle.qc_state.specs.Numbers.{next_number};
 ghost use Rattle.qc_state.specs.Sending.{is_silent, owes_in, is_used_up, is_key_used_up, is_key_nearly_used_up, is_token_too_long, kill_in, room_of};
 ghost use Rattle.qc_state.specs.Spaces.{space_of};
 ghost use Rattle.qc_state.specs.View.{ideal};
@@ -150,7 +149,6 @@ pub(crate) fn is_probe_due<U: Suite>(core: &Core<U>, form: Form) -> bool
 
 /// Whether the token of the next Initial packet leaves no room for the greatest close without a reason in a datagram of so many bytes.
 fn lacks_room<U: Suite>(core: &Core<U>, least: u64) -> bool
-    requires { next_number core.now.numbers Initial - acked_number core.now.numbers Initial < 2 ^ 31 }
     ensures { result ≡ nat_lt (room_of least (ideal U.Random.stream core.now) Form.Initial) 25 }
 {
     frame_room(core, least as usize, Form::Initial) < GREATEST_CLOSE
@@ -159,7 +157,6 @@ fn lacks_room<U: Suite>(core: &Core<U>, least: u64) -> bool
 /// Whether the token of the next packet, an Initial one, leaves no room for the greatest close without a reason.
 #[tactic(auto, unfolding(qc_state::specs::Sending::is_token_too_long))]
 fn is_token_too_long<U: Suite>(core: &Core<U>, batch: &Batch, form: Form) -> bool
-    requires { is_used_up (ideal U.Random.stream core.now) (number_space form) ≡ false }
     ensures { result ≡ is_token_too_long batch.now (ideal U.Random.stream core.now) form }
 {
     match form {
@@ -200,7 +197,7 @@ pub(crate) fn owes_ack<U: Suite>(core: &Core<U>, space: SpaceId) -> bool
     core.waiting.owes_ack(space)
 }
 
-/// Whether the ACK of the space at a time has so much room, where there is one. Want of memory is the only refusal.
+/// Whether the ACK of the space at a time has so much room; true where there is none. Want of memory is the only refusal.
 pub(crate) fn ack_fits<U: Suite>(
     core: &Core<U>,
     alloc: Global,
@@ -208,7 +205,8 @@ pub(crate) fn ack_fits<U: Suite>(
     space: SpaceId,
     room: usize,
 ) -> Result<bool, AllocError>
-    ensures { IfOk result (λ fits. fits ≡ false → IsLongAck now (space_of core.now.waiting.spaces space) room) }
+    ensures long { IfOk result (λ fits. fits ≡ false → IsLongAck now (space_of core.now.waiting.spaces space) room) }
+    ensures short { IfOk result (λ fits. fits ≡ true → may_acknowledge (space_of core.now.waiting.spaces space).acks ≡ true → IsShortAck now (space_of core.now.waiting.spaces space) room) }
 {
     core.waiting.ack_fits(alloc, now, space, room)
 }

@@ -1,6 +1,6 @@
 //! How many bytes a packet is to have, and what follows it.
 
-ghost use Rattle.std.specs.Prelude.{◌≡◌, ◌+◌, ◌-◌, ◌<◌, ◌≤◌, ◌^◌, length, IfOk};
+ghost use Rattle.std.specs.Prelude.{◌≡◌, ◌+◌, ◌-◌, ◌≤◌, length, IfOk};
 ghost use Rattle.qc_base.specs.PacketNumber.{number_len, number_of};
 ghost use Rattle.qc_frame.specs.FrameSpelling.{frames_spelling};
 ghost use Rattle.qc_send.specs.Filling.{batch_planned, size_to};
@@ -12,8 +12,8 @@ ghost use Rattle.qc_state.specs.View.{ideal};
 
 use crate::joining::joining;
 use crate::owing::next_number;
-use crate::sealing::{TAG, fills_up};
-use qc_base::{Instant, PacketNumber, SpaceId};
+use crate::sealing::{TAG, fills_up, spelled_number};
+use qc_base::{Instant, SpaceId};
 use qc_core::Core;
 use qc_frame::FrameList;
 use qc_state::{Batch, Form, Means, Suite};
@@ -40,12 +40,11 @@ pub(crate) fn plain_size(left: usize, room: usize, frames: &FrameList) -> usize
 
 /// How many bytes the number of the next packet has, which is of this form.
 fn number_len<U: Suite>(core: &Core<U>, form: Form) -> usize
-    requires { next_number core.now.numbers (number_space form) - acked_number core.now.numbers (number_space form) < 2 ^ 31 }
     ensures value { result ≡ number_len (number_of (next_number core.now.numbers (number_space form)) (acked_number core.now.numbers (number_space form))) }
     ensures most { result ≤ 4 }
 {
     let space = form.space();
-    PacketNumber::new(core.numbers.next(space), core.numbers.acked_number(space)).len()
+    spelled_number(core.numbers.next(space), core.numbers.acked_number(space)).len()
 }
 
 /// How many bytes the id has that packets carry.
@@ -65,7 +64,6 @@ fn needed_size<U: Suite>(
     room: usize,
     frames: &FrameList,
 ) -> usize
-    requires near { next_number core.now.numbers (number_space form) - acked_number core.now.numbers (number_space form) < 2 ^ 31 }
     requires room { room ≡ room_of left (ideal U.Random.stream core.now) form }
     requires wide { 25 ≤ room }
     requires within { room ≤ left }
@@ -91,7 +89,6 @@ fn planned<U: Suite>(
     nearly: bool,
     frames: &FrameList,
 ) -> Batch
-    requires near { next_number core.now.numbers (number_space form) - acked_number core.now.numbers (number_space form) < 2 ^ 31 }
     requires room { room ≡ room_of (batch.now.capacity - batch.now.filled) (ideal U.Random.stream core.now) form }
     requires wide { 25 ≤ room }
     requires within { room ≤ batch.now.capacity - batch.now.filled }
@@ -154,7 +151,6 @@ pub(crate) fn plan_packet<U: Suite>(
     nearly: bool,
     frames: &FrameList,
 ) -> Result<Plan, AllocError>
-    requires near { next_number core.now.numbers (number_space form) - acked_number core.now.numbers (number_space form) < 2 ^ 31 }
     requires room { room ≡ room_of (batch.now.capacity - batch.now.filled) (ideal U.Random.stream core.now) form }
     requires wide { 25 ≤ room }
     requires within { room ≤ batch.now.capacity - batch.now.filled }

@@ -1,8 +1,9 @@
 //! One packet: how it is begun, its header, and its bytes; and what a transmit does once behind its packets.
 
 ghost use Rattle.std.specs.Prelude.{◌≡◌, ◌+◌, ◌-◌, ◌<◌, ◌≤◌, ◌^◌, ◌++◌, true, false, None, IsSome, IfSome, if◌then◌else◌, length, option_map, replicate, OnOk, IfOk};
-ghost use Rattle.qc_send.specs.Drawing.{drawn_for, header_with, slot_drawn, token_bytes, token_in};
+ghost use Rattle.qc_send.specs.Headers.{header_with, token_bytes, token_in};
 ghost use Rattle.qc_send.specs.Filling.{padded_to, padding_to};
+ghost use Rattle.qc_base.specs.PacketNumber.{number_of};
 ghost use Rattle.qc_base.specs.declared.side.SpaceId.TheVariants.{Initial};
 ghost use Rattle.qc_frame.specs.FrameSpelling.{frames_spelling};
 ghost use Rattle.qc_frame.specs.declared.frames.FrameOf.TheVariants.{Padding};
@@ -14,7 +15,7 @@ ghost use Rattle.qc_state.specs.Keys.{has_keys_for, header_key, packet_key, reac
 ghost use Rattle.qc_state.specs.Moves.{Seal, move_to};
 ghost use Rattle.qc_state.specs.Numbers.{next_number, acked_number};
 ghost use Rattle.qc_state.specs.Batches.{segment_of};
-ghost use Rattle.qc_state.specs.Sending.{begun_after, begun_batch, fills, fills_up, finished_after, flips_now, header_in, is_flown, packet_bytes, packet_size, room_of, sealed_with, spared_after, transmit_with};
+ghost use Rattle.qc_state.specs.Sending.{begun_after, begun_batch, fills, fills_up, finished_after, flips_now, header_in, is_flown, packet_bytes, packet_size, room_of, sealed_with, slot_with, spared_after, spin_now, transmit_with};
 ghost use Rattle.qc_state.specs.Spaces.{is_space};
 ghost use Rattle.qc_state.specs.View.{ideal, held};
 
@@ -58,15 +59,26 @@ fn token_bytes(form: Form, token: &[u8]) -> usize
     }
 }
 
+/// The number of a packet as it is spelled, by the greatest acknowledged one: in as few bytes as tell it apart (RFC 9000, section 17.1), and in
+/// four where none do; no packet is sealed then.
+pub(crate) fn spelled_number(number: u64, acked: u64) -> PacketNumber
+    requires { acked ≤ number }
+    ensures { result ≡ number_of number acked }
+{
+    if number - acked < 1 << 31 {
+        return PacketNumber::new(number, acked);
+    }
+    PacketNumber::U32((number % 0x1_0000_0000) as u32)
+}
+
 /// The header of the next packet, of this form, with this spin bit where it is a 1-RTT packet, and this token where it is an Initial
 /// one.
 #[tactic(auto, unfolding(qc_state::specs::Setup::ideal_setup))]
 fn header_with<U: Suite>(core: &Core<U>, form: Form, spin: bool, token: Bytes) -> Header
-    requires { next_number core.now.numbers (number_space form) - acked_number core.now.numbers (number_space form) < 2 ^ 31 }
     ensures { result ≡ header_with (ideal U.Random.stream core.now) form spin token }
 {
     let space = form.space();
-    let number = PacketNumber::new(core.numbers.next(space), core.numbers.acked_number(space));
+    let number = spelled_number(core.numbers.next(space), core.numbers.acked_number(space));
     let dst_cid = core.paths.current.remote_cid;
     let src_cid = core.setup.fixed.local_cid;
     let version = core.setup.fixed.version;
@@ -105,7 +117,6 @@ fn header_with<U: Suite>(core: &Core<U>, form: Form, spin: bool, token: Bytes) -
 /// its tag.
 #[tactic(auto, unfolding(qc_state::specs::Setup::ideal_setup))]
 pub(crate) fn frame_room<U: Suite>(core: &Core<U>, left: usize, form: Form) -> usize
-    requires { next_number core.now.numbers (number_space form) - acked_number core.now.numbers (number_space form) < 2 ^ 31 }
     ensures value { result ≡ room_of left (ideal U.Random.stream core.now) form }
     ensures wide { is_space (number_space form) Initial ≡ false → JOINING_SIZE ≤ left → 25 ≤ result }
     ensures within { result ≤ left }
@@ -126,17 +137,23 @@ fn token<U: Suite>(core: &Core<U>, form: Form) -> Result<Bytes, AllocError>
     }
 }
 
-/// The header of the next packet, of this form, and whether its fixed bit is flipped; what is drawn for it is drawn. Want of memory is
-/// the only refusal.
-fn header_and_flip<U: Suite>(core: &mut Core<U>, form: Form) -> Result<(Header, bool), AllocError>
-    requires { next_number core.old.numbers (number_space form) - acked_number core.old.numbers (number_space form) < 2 ^ 31 }
-    ensures header { IfOk result (λ r. r.0 ≡ header_in (ideal U.Random.stream core.old) form) }
-    ensures flip { IfOk result (λ r. r.1 ≡ flips_now (ideal U.Random.stream core.old) form) }
-    ensures leads { OnOk result ((ideal U.Random.stream core.new) ≡ drawn_for form (ideal U.Random.stream core.old)) }
+/// The spin bit of the next packet, where it is a 1-RTT one: that of the path where the connection spins, else the drawn one.
+#[tactic(auto, unfolding(qc_state::specs::Sending::spin_now, qc_state::specs::Setup::ideal_setup))]
+fn spin<U: Suite>(core: &Core<U>) -> bool
+    ensures { result ≡ spin_now (ideal U.Random.stream core.now) }
+{
+    if core.setup.fixed.spins {
+        return core.paths.spin;
+    }
+    core.setup.drawn.spin
+}
+
+/// The header of the next packet, of this form. Want of memory is the only refusal.
+fn header<U: Suite>(core: &Core<U>, form: Form) -> Result<Header, AllocError>
+    ensures { IfOk result (λ header. header ≡ header_in (ideal U.Random.stream core.now) form) }
 {
     let token = token(core, form)?;
-    let drawn = core.setup.draw_packet(form, core.paths.spin);
-    Ok((header_with(core, form, drawn.spin, token), drawn.flip))
+    Ok(header_with(core, form, spin(core), token))
 }
 
 /// Whether a packet of this form with these frames fills up its datagram.
@@ -147,8 +164,8 @@ pub(crate) fn fills_up<U: Suite>(core: &Core<U>, form: Form, frames: &FrameList)
     fills(core.setup.fixed.side, form.space(), frames.elicits())
 }
 
-/// A packet of this form is begun, and a datagram with it where it opens one: a probe that is due in its space is spent then, and
-/// the number that would be next is skipped where it is to be. Want of memory is the only refusal.
+/// A packet of this form is begun, and a datagram with it where it opens one: the number that would be next is skipped where it is to be, and
+/// a probe that is due in its space is spent. Want of memory is the only refusal.
 #[tactic(auto, unfolding(qc_state::specs::Sending::begun_after, qc_state::specs::Sending::skipped_after, qc_state::specs::Moves::move_to, qc_state::specs::Moves::deeds_move))]
 pub(crate) fn begin_packet<U: Suite>(
     core: &mut Core<U>,
@@ -159,11 +176,10 @@ pub(crate) fn begin_packet<U: Suite>(
     ensures { OnOk result ((held U.Random.stream core.new did.now) ≡ begun_after (number_space form) opens (held U.Random.stream core.old did.now)) }
 {
     let space = form.space();
-    core.do_begin(space, opens)?;
     if core.numbers.is_skipped(space) {
         core.do_skip();
     }
-    Ok(())
+    core.do_begin(space, opens)
 }
 
 /// The same, and what is known of the datagrams then. Want of memory is the only refusal.
@@ -255,10 +271,10 @@ pub(crate) fn transmit_to<U: Suite>(core: &Core<U>, batch: &Batch) -> Transmit
     }
 }
 
-/// What the builder is given of the next packet, of this form, whose fixed bit is flipped or not. None exactly where there are
-/// no keys.
-fn slot<U: Suite>(core: &Core<U>, form: Form, flip: bool) -> Option<Slot>
-    ensures { result ≡ option_map (slot_drawn (ideal U.Random.stream core.now) form flip) (usage_of core.now.keys form) }
+/// What the builder is given of the next packet, of this form. None exactly where there are no keys.
+#[tactic(auto, unfolding(qc_state::specs::Sending::flips_now, qc_state::specs::Setup::ideal_setup))]
+fn slot<U: Suite>(core: &Core<U>, form: Form) -> Option<Slot>
+    ensures { result ≡ option_map (slot_with (ideal U.Random.stream core.now) form) (usage_of core.now.keys form) }
 {
     match core.keys.usage(form) {
         None => None,
@@ -268,18 +284,16 @@ fn slot<U: Suite>(core: &Core<U>, form: Form, flip: bool) -> Option<Slot>
             largest_acked: core.numbers.acked_number(form.space()),
             sealed: usage.sealed,
             limit: usage.limit,
-            flip,
+            flip: core.setup.flips(),
         }),
     }
 }
 
-/// Seals the next packet, of this form, with this header and these frames at the end of a buffer, its fixed bit flipped or not, filled up
-/// with PADDING to `least` bytes at least, and to what each packet has to have. The PADDING frames are added to the list. Want of
-/// memory is the only refusal.
+/// Seals the next packet, of this form, with this header and these frames at the end of a buffer, filled up with PADDING to `least` bytes
+/// at least, and to what each packet has to have. The PADDING frames are added to the list. Want of memory is the only refusal.
 fn seal_with<U: Suite>(
     core: &Core<U>,
     form: Form,
-    flip: bool,
     header: &Header,
     frames: &mut FrameList,
     left: usize,
@@ -288,13 +302,13 @@ fn seal_with<U: Suite>(
 ) -> Result<(), AllocError>
     requires keyed { has_keys_for core.now.keys form ≡ true }
     requires numbered { IsSome (header_number header.now) }
-    requires begins { IfSome (usage_of core.now.keys form) (λ usage. kill_of (slot_drawn (ideal U.Random.stream core.now) form flip usage) header.now 0 left ≡ None) }
+    requires begins { IfSome (usage_of core.now.keys form) (λ usage. kill_of (slot_with (ideal U.Random.stream core.now) form usage) header.now 0 left ≡ None) }
     requires sized { min_size_of 0 header.now + 16 ≤ left }
     requires room { length (header_spelling header.now 0) + length (frames_spelling frames.old) + 16 ≤ left }
     requires small { least ≤ left }
     requires most { left ≤ 16383 }
     ensures frames { OnOk result (frames.new ≡ frames.old ++ replicate (padding_len header.now frames.old (padded_size header.now frames.old least)) Padding) }
-    ensures bytes { OnOk result (buf.new.items ≡ buf.old.items ++ sealed_with ⟦<U as Means>⟧.meaning (header_key core.now.keys form) (packet_key core.now.keys form) flip header.now (next_number core.now.numbers (number_space form)) (frames_spelling frames.new)) }
+    ensures bytes { OnOk result (buf.new.items ≡ buf.old.items ++ sealed_with ⟦<U as Means>⟧.meaning (header_key core.now.keys form) (packet_key core.now.keys form) (flips_now (ideal U.Random.stream core.now)) header.now (next_number core.now.numbers (number_space form)) (frames_spelling frames.new)) }
     ensures full { OnOk result (length buf.new.items ≡ length buf.old.items + padded_size header.now frames.old least) }
 {
     let header_key = match core.keys.header_key(form) {
@@ -305,7 +319,7 @@ fn seal_with<U: Suite>(
         Some(key) => key,
         None => unreachable!(),
     };
-    let slot = match slot(core, form, flip) {
+    let slot = match slot(core, form) {
         Some(slot) => slot,
         None => unreachable!(),
     };
@@ -331,8 +345,8 @@ pub(crate) struct Sealed {
 }
 
 /// Seals the next packet, of this form, with these frames at the end of a buffer, filled up with PADDING to `least` bytes and to what it has to
-/// have, and counts it. The frames stand in so much room, of so many bytes that are left for the packet. What is drawn for it is drawn. Want of
-/// memory is the only refusal.
+/// have, and counts it. The frames stand in so much room, of so many bytes that are left for the packet. Want of memory is the only
+/// refusal.
 pub(crate) fn seal<U: Suite>(
     core: &mut Core<U>,
     alloc: Global,
@@ -368,8 +382,8 @@ pub(crate) fn seal<U: Suite>(
     let start = buf.len();
     let plain = plain_size(left, room, &frames);
     let number = next_number(core, form.space());
-    let (header, flip) = header_and_flip(core, form)?;
-    seal_with(core, form, flip, &header, &mut frames, left, least, buf)?;
+    let header = header(core, form)?;
+    seal_with(core, form, &header, &mut frames, left, least, buf)?;
     let end = buf.len();
     let size = end.saturating_sub(start);
     let fills = fills_up(core, form, &frames);

@@ -15,7 +15,9 @@ ghost use Rattle.qc_state.specs.Sending.{Closes, holds_owed};
 ghost use Rattle.qc_state.specs.Spaces.{is_space, space_of};
 ghost use Rattle.qc_state.specs.StreamFrames.{sealed_steps};
 ghost use Rattle.qc_state.specs.Taking.{TakenPart};
+ghost use Rattle.qc_state.specs.Tokens.{AllIssued, made_by};
 ghost use Rattle.qc_state.specs.View.{ideal};
+ghost use Rattle.std.specs.Net.Socket.{socket_ip};
 ghost use Rattle.qc_streams.specs.Steps.{AllMay};
 
 use crate::closing::{closing_frame, kept_reason};
@@ -25,7 +27,7 @@ use qc_base::{Instant, SpaceId};
 use qc_core::Core;
 use qc_frame::FrameList;
 use qc_state::waiting::holds_ack;
-use qc_state::{Form, SPARE_ROOM, Suite};
+use qc_state::{Form, Means, SPARE_ROOM, Suite};
 use std::alloc::{AllocError, Global};
 
 /// How much room of `room` these frames leave.
@@ -87,6 +89,7 @@ fn take_waiting<U: Suite>(
     ensures may { IfOk result (λ frames. AllMay (sealed_steps frames) core.old.lower.streams) }
     ensures oldest { IfOk result (λ frames. AllOldest frames core.old.lower.datagrams) }
     ensures next { IfOk result (λ frames. AllNext frames core.old.lower.ids) }
+    ensures issued { IfOk result (λ frames. AllIssued (made_by ⟦<U as Means>⟧.meaning.token core.old.issuer) (socket_ip core.old.paths.current.remote) frames (space_of core.old.waiting.spaces space) (U.Random.stream core.old.setup.random)) }
     ensures some { IfOk result (λ frames. (holds_owed (ideal U.Random.stream core.old) space frames ≡ true) ⊎ ((first ≡ true) × OwesAckAlone (ideal U.Random.stream core.old) space)) }
     ensures leads { IfOk result (λ frames. (ideal U.Random.stream core.new) ≡ state_move (Take space frames) (ideal U.Random.stream core.old)) }
     ensures full { IfOk result (λ frames. SPARE_ROOM ≤ room - length (frames_spelling frames) → offers_in (ideal U.Random.stream core.new) space ≡ false) }
@@ -96,7 +99,7 @@ fn take_waiting<U: Suite>(
     let alone = core.owes_ack_alone(space);
     let frames = core.do_take(alloc, now, space, room)?;
     // A frame that waits is taken where there is room for 25 bytes, and more there is in each packet; one about connection ids where
-    // there is room for 54, and more there is in each 1-RTT packet; a DATAGRAM that waits where it fits alone, as it does; and an ACK that
+    // there is room for 54, and a NEW_TOKEN where there is room for 60, and more there is in each 1-RTT packet; a DATAGRAM that waits where it fits alone, as it does; and an ACK that
     // isn't owed leaves them that room: this refusal doesn't come, as long as the streams draw what waits, which holds of all that were new
     // once (`what_waits_is_drawn`), and of which the core knows nothing.
     let makes = makes_packet(&frames, owes, first, alone);
@@ -123,7 +126,7 @@ pub(crate) fn take<U: Suite>(
     form: Form,
     room: usize,
 ) -> Result<FrameList, AllocError>
-    ensures frames { IfOk result (λ frames. TakenNow closing first now (ideal U.Random.stream core.old) (number_space form) room frames) }
+    ensures frames { IfOk result (λ frames. TakenNow ⟦<U as Means>⟧.meaning.token closing first now (ideal U.Random.stream core.old) (number_space form) room frames) }
     ensures leads { IfOk result (λ frames. (ideal U.Random.stream core.new) ≡ state_move (Take (number_space form) frames) (ideal U.Random.stream core.old)) }
     ensures full { IfOk result (λ frames. closing ≡ false → SPARE_ROOM ≤ room - length (frames_spelling frames) → offers_in (ideal U.Random.stream core.new) (number_space form) ≡ false) }
     ensures probes { IfOk result (λ frames. closing ≡ false → probes ≡ true → (list_any elicits frames ≡ true) ⊎ (room - length (frames_spelling frames) < SPARE_ROOM)) }

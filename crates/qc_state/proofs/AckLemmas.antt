@@ -37,7 +37,7 @@ pub says : (time delay : ℕ) (w : SpaceWaiting) (ack : AckValue) → ranges_of 
 says time delay w ack ranges is_delay kept ecn fits shortest = record { ranges = ranges; delay = kept ∙ is_delay; ecn = ecn; fits = fits; shortest = shortest }
 
 -- an ACK of a space is one of each space with the same numbers and counts
-says_same : (time : ℕ) (w v : SpaceWaiting) (ack : AckValue) → w.acks ≡ v.acks → w.marks ≡ v.marks → SaysAck time w ack → SaysAck time v ack
+pub says_same : (time : ℕ) (w v : SpaceWaiting) (ack : AckValue) → w.acks ≡ v.acks → w.marks ≡ v.marks → SaysAck time w ack → SaysAck time v ack
 says_same time w v ack acks marks says =
     record {
       ranges = says.ranges ∙ ap (λ (p : PendingValues). reverse p.ranges) acks;

@@ -1,5 +1,5 @@
 -- What a packet that is begun leaves: a number may be skipped before it.
-use Rattle.std.proofs.Common.{◌≡◌, List, [], refl, Bool, true, false, if◌then◌else◌}
+use Rattle.std.proofs.Common.{◌≡◌, List, [], refl, ap, Bool, true, false, if◌then◌else◌}
 use Rattle.qc_base.specs.declared.side.SpaceId.{SpaceId}
 use Rattle.qc_base.specs.declared.side.SpaceId.TheVariants.{Initial, Handshake, «Data»}
 use Rattle.qc_state.specs.declared.deeds.Did.{Did}
@@ -26,7 +26,7 @@ module _ {t : Types} where
 
   pub begun_same : (id : SpaceId) (opens : Bool) (a : At t) → (begun_after id opens a).state ≡ begun_view a.state id opens
   unfolding begun_view begun_after skipped_after move_to deeds_move
-  begun_same id opens a = skipped_by (state_move (Begin id opens) a.state) a.did [] (is_skipped (state_move (Begin id opens) a.state).numbers id)
+  begun_same id opens a = ap (λ (v : View t). state_move (Begin id opens) v) (skipped_by a.state a.did [] (is_skipped a.state.numbers id))
 
   -- the keys and the life stay
   skipped_keys : (a : At t) (b : Bool) → (if b then move_to Skip a else a).state.keys ≡ a.state.keys
@@ -36,7 +36,7 @@ module _ {t : Types} where
 
   pub begun_keys : (id : SpaceId) (opens : Bool) (a : At t) → (begun_after id opens a).state.keys ≡ a.state.keys
   unfolding begun_after skipped_after move_to state_move keys_move
-  begun_keys id opens a = let b : At t = move_to (Begin id opens) a in skipped_keys b (is_skipped b.state.numbers id)
+  begun_keys id opens a = skipped_keys a (is_skipped a.state.numbers id)
 
   skipped_life : (a : At t) (b : Bool) → (if b then move_to Skip a else a).state.life ≡ a.state.life
   unfolding move_to state_move life_move
@@ -45,7 +45,7 @@ module _ {t : Types} where
 
   pub begun_life : (id : SpaceId) (opens : Bool) (a : At t) → (begun_after id opens a).state.life ≡ a.state.life
   unfolding begun_after skipped_after move_to state_move life_move
-  begun_life id opens a = let b : At t = move_to (Begin id opens) a in skipped_life b (is_skipped b.state.numbers id)
+  begun_life id opens a = skipped_life a (is_skipped a.state.numbers id)
 
 -- what holds of no move, of two moves one after the other, and of each of its moves, holds of a packet that is begun
 module _ {t : Types} (R : At t → At t → Type 0) (here : (a : At t) → R a a) (next : (a b c : At t) → R a b → R b c → R a c) where
@@ -56,4 +56,5 @@ module _ {t : Types} (R : At t → At t → Type 0) (here : (a : At t) → R a a
 
   pub holds_begun : (id : SpaceId) (opens : Bool) (a : At t) → ((c : At t) → R c (move_to (Begin id opens) c)) → ((c : At t) → MayMove Skip c.state → R c (move_to Skip c)) → R a (begun_after id opens a)
   unfolding begun_after skipped_after
-  holds_begun id opens a begin skip = let b : At t = move_to (Begin id opens) a in next a b _ (begin a) (skip_by id b (is_skipped b.state.numbers id) refl skip)
+  holds_begun id opens a begin skip =
+      let b : At t = if is_skipped a.state.numbers id then move_to Skip a else a in next a b _ (skip_by id a (is_skipped a.state.numbers id) refl skip) (begin b)

@@ -14,7 +14,7 @@ use Rattle.qc_state.specs.Life.{is_closed}
 use Rattle.qc_state.specs.Lower.{datagrams_stepped, frames_sealed, ids_stepped, streams_stepped}
 use Rattle.qc_state.specs.Moves.{Take, lower_move, state_move}
 use Rattle.qc_state.specs.Sending.{Carries, Closes, application_close, close_frame, closing_frame, told_close}
-use Rattle.qc_state.specs.Types.{Types}
+use Rattle.qc_state.specs.Types.{TokenMaker, Types}
 use Rattle.qc_state.specs.View.{View}
 use Rattle.qc_state.specs.declared.form.Form.{Form}
 use Rattle.qc_state.specs.declared.life.Close.{Close}
@@ -112,25 +112,26 @@ module _ {t : Types} where
       ∙ ap (λ (xs : List Step). xs ++ (sealed_datagram (closing_frame id kept s.life) ++ [])) (datagrams_ack time _ _ acks (may_acknowledge _) part)
       ∙ ap (λ (xs : List Step). xs ++ []) (datagrams_closing id kept (is_closed s.life.state) s.life.close)
 
-  -- a DATAGRAM that waits holds the oldest datagram
-  waits_oldest : (time : ℕ) (s : View t) (id : SpaceId) (f : FrameValue) → Waits time s id f → IsOldest f s.lower.datagrams
-  unfolding Waits
-  waits_oldest time s id (frames.Datagram body) h = h.1
-  waits_oldest time s id _ h = tt
-
   -- what a frame that is taken leaves of the datagrams
   pub taken_datagrams : (id : SpaceId) (f : FrameValue) (s : View t) → (state_move (Take id (f ∷ [])) s).lower.datagrams ≡ after (sealed_datagram f) s.lower.datagrams
   unfolding state_move lower_move frames_sealed streams_stepped datagrams_stepped ids_stepped sealed_datagrams
   taken_datagrams id f s = ap (λ (xs : List Step). after xs s.lower.datagrams) (append-nil (sealed_datagram f))
 
-  wait_oldest : (time : ℕ) (s : View t) (id : SpaceId) (fs : List FrameValue) → WaitAll time s id fs → AllOldest fs s.lower.datagrams
+module _ {t : Types} (maker : TokenMaker t) where
+  -- a DATAGRAM that waits holds the oldest datagram
+  waits_oldest : (time : ℕ) (s : View t) (id : SpaceId) (f : FrameValue) → Waits maker time s id f → IsOldest f s.lower.datagrams
+  unfolding Waits
+  waits_oldest time s id (frames.Datagram body) h = h.1
+  waits_oldest time s id _ h = tt
+
+  wait_oldest : (time : ℕ) (s : View t) (id : SpaceId) (fs : List FrameValue) → WaitAll maker time s id fs → AllOldest fs s.lower.datagrams
   unfolding WaitAll AllOldest
   wait_oldest time s id [] h = tt
   wait_oldest time s id (f ∷ fs) h =
       (waits_oldest time s id f h.0, subst (λ (x : Datagrams). AllOldest fs x) (taken_datagrams id f s) (wait_oldest time (state_move (Take id (f ∷ [])) s) id fs h.1))
 
   -- so it is with what a packet carries
-  pub carried_oldest : (closing : Bool) (time : ℕ) (s : View t) (form : Form) (room : ℕ) (fs : List FrameValue) → Carries closing time s form room fs → AllOldest fs s.lower.datagrams
+  pub carried_oldest : (closing : Bool) (time : ℕ) (s : View t) (form : Form) (room : ℕ) (fs : List FrameValue) → Carries maker closing time s form room fs → AllOldest fs s.lower.datagrams
   carried_oldest closing time s form room fs (Carries.a_close owed gs n holds is) =
       oldest_none fs s.lower.datagrams (ap sealed_datagrams is ∙ datagrams_padded gs n ∙ datagrams_close time s (number_space form) room gs holds)
   carried_oldest closing time s form room fs (Carries.what_waits free gs n wait is) =

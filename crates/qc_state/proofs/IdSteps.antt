@@ -15,7 +15,7 @@ use Rattle.qc_state.specs.Life.{is_closed}
 use Rattle.qc_state.specs.Lower.{datagrams_stepped, frames_sealed, ids_stepped, streams_stepped}
 use Rattle.qc_state.specs.Moves.{Take, lower_move, state_move}
 use Rattle.qc_state.specs.Sending.{Carries, Closes, application_close, close_frame, closing_frame, told_close}
-use Rattle.qc_state.specs.Types.{Types}
+use Rattle.qc_state.specs.Types.{TokenMaker, Types}
 use Rattle.qc_state.specs.View.{View}
 use Rattle.qc_state.specs.declared.form.Form.{Form}
 use Rattle.qc_state.specs.declared.life.Close.{Close}
@@ -108,26 +108,27 @@ module _ {t : Types} where
       ∙ ap (λ (xs : List Step). xs ++ (sealed_cid (closing_frame id kept s.life) ++ [])) (cids_ack time _ _ acks (may_acknowledge _) part)
       ∙ ap (λ (xs : List Step). xs ++ []) (cids_closing id kept (is_closed s.life.state) s.life.close)
 
-  -- one that waits is the one that goes next
-  waits_next : (time : ℕ) (s : View t) (id : SpaceId) (f : FrameValue) → Waits time s id f → IsNext f s.lower.ids
-  unfolding Waits
-  waits_next time s id (frames.NewConnectionId new) h = h.1
-  waits_next time s id (frames.RetireConnectionId sequence) h = h.1
-  waits_next time s id _ h = tt
-
   -- what a frame that is taken leaves of the ids
   pub taken_cids : (id : SpaceId) (f : FrameValue) (s : View t) → (state_move (Take id (f ∷ [])) s).lower.ids ≡ after (sealed_cid f) s.lower.ids
   unfolding state_move lower_move frames_sealed streams_stepped datagrams_stepped ids_stepped sealed_cids
   taken_cids id f s = ap (λ (xs : List Step). after xs s.lower.ids) (append-nil (sealed_cid f))
 
-  wait_next : (time : ℕ) (s : View t) (id : SpaceId) (fs : List FrameValue) → WaitAll time s id fs → AllNext fs s.lower.ids
+module _ {t : Types} (maker : TokenMaker t) where
+  -- one that waits is the one that goes next
+  waits_next : (time : ℕ) (s : View t) (id : SpaceId) (f : FrameValue) → Waits maker time s id f → IsNext f s.lower.ids
+  unfolding Waits
+  waits_next time s id (frames.NewConnectionId new) h = h.1
+  waits_next time s id (frames.RetireConnectionId sequence) h = h.1
+  waits_next time s id _ h = tt
+
+  wait_next : (time : ℕ) (s : View t) (id : SpaceId) (fs : List FrameValue) → WaitAll maker time s id fs → AllNext fs s.lower.ids
   unfolding WaitAll AllNext
   wait_next time s id [] h = tt
   wait_next time s id (f ∷ fs) h =
       (waits_next time s id f h.0, subst (λ (x : ConnectionIds). AllNext fs x) (taken_cids id f s) (wait_next time (state_move (Take id (f ∷ [])) s) id fs h.1))
 
   -- so it is with what a packet carries
-  pub carried_next : (closing : Bool) (time : ℕ) (s : View t) (form : Form) (room : ℕ) (fs : List FrameValue) → Carries closing time s form room fs → AllNext fs s.lower.ids
+  pub carried_next : (closing : Bool) (time : ℕ) (s : View t) (form : Form) (room : ℕ) (fs : List FrameValue) → Carries maker closing time s form room fs → AllNext fs s.lower.ids
   carried_next closing time s form room fs (Carries.a_close owed gs n holds is) =
       next_none fs s.lower.ids (ap sealed_cids is ∙ cids_padded gs n ∙ cids_close time s (number_space form) room gs holds)
   carried_next closing time s form room fs (Carries.what_waits free gs n wait is) =

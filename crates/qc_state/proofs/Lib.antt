@@ -6,6 +6,7 @@ pub mod RoomTold
 pub mod IdSteps
 pub mod IdsSettled
 pub mod IdsTaken
+pub mod Issued
 pub mod InitialOpened
 pub mod KeptFrames
 pub mod KeySteps
@@ -32,6 +33,7 @@ pub mod StreamEvents
 pub mod StreamsSettled
 pub mod StreamsTaken
 pub mod Taken
+pub mod TokensTaken
 pub mod Transmitted
 pub mod Tried
 pub mod TriedTurns

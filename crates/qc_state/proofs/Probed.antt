@@ -10,6 +10,8 @@ use Rattle.qc_cids.specs.Steps as ids
 use Rattle.qc_state.specs.Ids.{again_ids, lost_cids}
 use Rattle.qc_state.specs.Lower.{ids_stepped, streams_stepped}
 use Rattle.qc_state.specs.Offers.{again_steps, begun_ids, begun_steps, oldest_in, packet_again, packet_begun, probe_begun, probe_ids, probe_sent, probe_steps, streams_filed, wants_sending, with_ping}
+use Rattle.qc_state.specs.Keys.{form_in}
+use Rattle.qc_state.specs.Setup.{packet_drawn}
 use Rattle.qc_state.specs.Spaces.{space_of}
 use Rattle.qc_state.specs.StreamFrames.{filed_steps, packet_lost}
 use Rattle.qc_state.specs.Types.{Types}
@@ -67,9 +69,12 @@ module _ {t : Types} where
   unfolding streams_filed
   filed_only id s v h = ap (λ (x : View t). record x { lower = streams_stepped (filed_steps id) v.lower }) h
 
-  pub begun_is : (id : SpaceId) (opens : Bool) (s : View t) → packet_begun id opens s ≡ state_move (Begin id opens) s
+  pub begun_is : (id : SpaceId) (opens : Bool) (s : View t) →
+      record (packet_begun id opens s) { setup = packet_drawn (packet_begun id opens s).setup (form_in (packet_begun id opens s).keys id) } ≡ state_move (Begin id opens) s
   unfolding packet_begun probe_begun state_move numbers_move keys_move life_move paths_move timers_move waiting_move setup_move lower_move
-  begun_is id opens s = filed_only id s (probe_begun id opens s) (begun_only id opens s ((space_of s.waiting.spaces id).probes == 0))
+  begun_is id opens s =
+      ap (λ (x : View t). record x { setup = packet_drawn x.setup (form_in x.keys id) })
+      (filed_only id s (probe_begun id opens s) (begun_only id opens s ((space_of s.waiting.spaces id).probes == 0)))
 
   -- ---- what it makes of the streams and of the ids, and that it leaves the other layers below
 

@@ -17,7 +17,7 @@ use Rattle.qc_state.specs.declared.transmit.Batch.{Batch}
 use Rattle.qc_state.specs.declared.waiting.Waiting.{Waiting}
 use Rattle.qc_state.specs.Keys.{has_keys_for}
 use Rattle.qc_state.specs.Life.{is_drained, is_established, is_open}
-use Rattle.qc_state.specs.Moves.{Ask, Begin, Skip, keys_move, life_move, move_to, paths_move, state_move, waiting_move, armed_with}
+use Rattle.qc_state.specs.Moves.{Ask, Skip, keys_move, life_move, move_to, paths_move, state_move, waiting_move, armed_with}
 use Rattle.qc_state.specs.Numbers.{is_skipped}
 use Rattle.qc_state.specs.Offers.{packet_again, packet_begun, probe_begun, probe_sent as ping_sent, oldest_in, streams_filed, wants_sending, with_ping}
 use Rattle.qc_state.specs.Paths.{held_size, path_kept}
@@ -151,7 +151,7 @@ module _ {t : Types} where
 
   begun_paths : (a : At t) → (begun_after «Data» false a).state.paths ≡ a.state.paths
   unfolding begun_after skipped_after move_to state_move paths_move
-  begun_paths a = let b : At t = move_to (Begin «Data» false) a in skipped_paths b (is_skipped b.state.numbers «Data»)
+  begun_paths a = skipped_paths a (is_skipped a.state.numbers «Data»)
 
   pub probe_keys : (m : Meaning t) (time : ℕ) (quiet : Quiet) (b : Batch) (a : At t) → (probe_begun_after m time quiet b a).state.keys ≡ a.state.keys
   unfolding probe_begun_after
@@ -210,8 +210,8 @@ module _ {t : Types} where
   begin_ping : (a : At t) → (space_of a.state.waiting.spaces «Data»).ping ≡ true → (space_of (begun_after «Data» false a).state.waiting.spaces «Data»).ping ≡ true
   unfolding begun_after skipped_after move_to state_move waiting_move packet_begun streams_filed
   begin_ping a h =
-      let b : At t = move_to (Begin «Data» false) a in
-      ap (λ (w : Waiting). (space_of w.spaces «Data»).ping) (skipped_waiting b (is_skipped b.state.numbers «Data»)) ∙ begun_ping a.state h
+      let b : At t = if is_skipped a.state.numbers «Data» then move_to Skip a else a in
+      begun_ping b.state (ap (λ (w : Waiting). (space_of w.spaces «Data»).ping) (skipped_waiting a (is_skipped a.state.numbers «Data»)) ∙ h)
 
   pub probe_ping : (m : Meaning t) (time : ℕ) (quiet : Quiet) (b : Batch) (a : At t) → (space_of (probe_begun_after m time quiet b a).state.waiting.spaces «Data»).ping ≡ true
   unfolding probe_begun_after

@@ -18,7 +18,7 @@ use Rattle.qc_state.specs.Lower.{datagrams_stepped, frames_sealed, ids_stepped, 
 use Rattle.qc_state.specs.Moves.{Take, lower_move, state_move}
 use Rattle.qc_state.specs.Sending.{Carries, Closes, application_close, close_frame, closing_frame, told_close}
 use Rattle.qc_state.specs.StreamFrames.{sealed_step, sealed_steps}
-use Rattle.qc_state.specs.Types.{Types}
+use Rattle.qc_state.specs.Types.{TokenMaker, Types}
 use Rattle.qc_state.specs.View.{View}
 use Rattle.qc_state.specs.declared.form.Form.{Form}
 use Rattle.qc_state.specs.declared.life.Close.{Close}
@@ -75,8 +75,14 @@ module _ {t : Types} where
       ∙ ap (λ (xs : List Step). xs ++ (sealed_step (closing_frame id kept s.life) ++ [])) (sealed_ack time _ _ acks (may_acknowledge _) part)
       ∙ ap (λ (xs : List Step). xs ++ []) (sealed_closing id kept (is_closed s.life.state) s.life.close)
 
+  -- what one that is taken leaves of the streams
+  taken_streams : (id : SpaceId) (f : FrameValue) (s : View t) → (state_move (Take id (f ∷ [])) s).lower.streams ≡ after (sealed_step f) s.lower.streams
+  unfolding state_move lower_move frames_sealed streams_stepped datagrams_stepped ids_stepped sealed_steps
+  taken_streams id f s = ap (λ (xs : List Step). after xs s.lower.streams) (append-nil (sealed_step f))
+
+module _ {t : Types} (maker : TokenMaker t) where
   -- a frame that waits may be sealed
-  waits_may : (time : ℕ) (s : View t) (id : SpaceId) (f : FrameValue) → Waits time s id f → AllMay (sealed_step f) s.lower.streams
+  waits_may : (time : ℕ) (s : View t) (id : SpaceId) (f : FrameValue) → Waits maker time s id f → AllMay (sealed_step f) s.lower.streams
   unfolding Waits AllMay IsPossible IsTaken IsAnswered IsSealedSo
   waits_may time s id (frames.Stream stream offset fin body) h = (record { possible = tt; taken = tt; answered = tt; sealed = h.1 }, tt)
   waits_may time s id (frames.ResetStream stream code size) h = (record { possible = tt; taken = tt; answered = tt; sealed = h.1 }, tt)
@@ -86,13 +92,8 @@ module _ {t : Types} where
   waits_may time s id (frames.MaxStreams dir limit) h = (record { possible = tt; taken = tt; answered = tt; sealed = h.1 }, tt)
   waits_may time s id _ h = tt
 
-  -- what one that is taken leaves of the streams
-  taken_streams : (id : SpaceId) (f : FrameValue) (s : View t) → (state_move (Take id (f ∷ [])) s).lower.streams ≡ after (sealed_step f) s.lower.streams
-  unfolding state_move lower_move frames_sealed streams_stepped datagrams_stepped ids_stepped sealed_steps
-  taken_streams id f s = ap (λ (xs : List Step). after xs s.lower.streams) (append-nil (sealed_step f))
-
   -- so may frames that wait, each as its turn comes
-  wait_may : (time : ℕ) (s : View t) (id : SpaceId) (fs : List FrameValue) → WaitAll time s id fs → AllMay (sealed_steps fs) s.lower.streams
+  wait_may : (time : ℕ) (s : View t) (id : SpaceId) (fs : List FrameValue) → WaitAll maker time s id fs → AllMay (sealed_steps fs) s.lower.streams
   unfolding WaitAll sealed_steps AllMay
   wait_may time s id [] h = tt
   wait_may time s id (f ∷ fs) h =
@@ -100,7 +101,7 @@ module _ {t : Types} where
       (subst (λ (x : StreamsState). AllMay (sealed_steps fs) x) (taken_streams id f s) (wait_may time (state_move (Take id (f ∷ [])) s) id fs h.1))
 
   -- and what a packet carries
-  pub carried_may : (closing : Bool) (time : ℕ) (s : View t) (form : Form) (room : ℕ) (fs : List FrameValue) → Carries closing time s form room fs → AllMay (sealed_steps fs) s.lower.streams
+  pub carried_may : (closing : Bool) (time : ℕ) (s : View t) (form : Form) (room : ℕ) (fs : List FrameValue) → Carries maker closing time s form room fs → AllMay (sealed_steps fs) s.lower.streams
   carried_may closing time s form room fs (Carries.a_close owed gs n holds is) =
       none_may fs s.lower.streams (ap sealed_steps is ∙ sealed_padded gs n ∙ sealed_close time s (number_space form) room gs holds)
   carried_may closing time s form room fs (Carries.what_waits free gs n wait is) =

@@ -1,5 +1,5 @@
 -- The frames that this end takes, from the parts in which they are taken.
-use Rattle.std.proofs.Common.{◌≡◌, ℕ, ◌+◌, ◌-◌, ◌<◌, ◌≤◌, ◌⊎◌, inl, List, [], ◌∷◌, ◌++◌, length, length-append, refl, ap, sym, ◌∙◌, subst, Bool, true, false, ◌||◌, ◌&&◌, if◌then◌else◌, Option, arith}
+use Rattle.std.proofs.Common.{◌≡◌, ℕ, ◌+◌, ◌-◌, ◌<◌, ◌≤◌, ◌⊎◌, inl, List, [], ◌∷◌, ◌++◌, length, length-append, refl, ap, sym, ◌∙◌, subst, Bool, true, false, ◌||◌, ◌&&◌, not, ◌==◌, if◌then◌else◌, Option, arith}
 use Rattle.std.proofs.lemmas.List.{append_assoc, append-nil}
 use Rattle.qc_frame.specs.AckRanges.{ArePackets}
 use Rattle.qc_frame.specs.Frame.{AckValue, FrameValue}
@@ -20,14 +20,18 @@ use Rattle.qc_state.specs.Datagrams.{AllOldest, sealed_datagrams}
 use Rattle.qc_state.specs.Ids.{AllNext, sealed_cids}
 use Rattle.qc_state.specs.Lower.{frames_sealed}
 use Rattle.qc_state.specs.Taking.{AreOffered, CryptoPart, TakenPart, TakesAck, TakesCrypto, TakesOffered, marks_part, done_part, ping_part}
-use Rattle.qc_state.specs.Offers.{ids_offer, offers_here, streams_offer}
+use Rattle.qc_state.specs.Offers.{ids_offer, offers_here, streams_offer, tokens_wait}
 use Rattle.qc_state.specs.Waiting.{StartsWith, crypto_waits, wants_here, without, without_all}
 use Rattle.qc_state.specs.declared.lower.Lower.{Lower}
 use Rattle.qc_state.specs.declared.waiting.SpaceWaiting.{SpaceWaiting}
 use Rattle.qc_state.proofs.AckLemmas.{none_due, not_both, part_same}
 use Rattle.qc_state.proofs.DatagramSteps.{behind_none, datagrams_ack, datagrams_append, none_before, none_behind, oldest_first}
 use Rattle.qc_state.proofs.IdSteps.{behind_no_cid, cids_ack, cids_append, next_first, no_cid_before, no_cid_behind}
+use Rattle.qc_state.proofs.Issued.{behind_append, undrawn, issued_before, issued_first, issued_past, none_issued_behind, tokens_ack, tokens_append, tokens_crypto, tokens_marks, tokens_of}
 use Rattle.qc_state.proofs.OffersTaken.{sealed_same}
+use Rattle.qc_state.specs.Tokens.{AllIssued, behind_tokens}
+use Rattle.rand_core.specs.Stream.{Stream}
+use Rattle.std.specs.declared.net.ip_addr.IpAddr.{IpAddr}
 use Rattle.qc_state.proofs.SealedSteps.{sealed_ack, sealed_append}
 use Rattle.qc_state.proofs.StreamsTaken.{spelled_append}
 use Rattle.qc_streams.specs.Waits.{Step}
@@ -120,36 +124,54 @@ parts_list w fs0 fs1 fs2 fs3 fs4 fs5 acks crypto own last is_fs0 is_fs1 is_fs2 i
     is_fs5 ∙ ap (λ (x : List FrameValue). x ++ last) is_fs4 ∙ ap (λ (x : List FrameValue). (x ++ own) ++ last) is_fs3 ∙ ap (λ (x : List FrameValue). ((x ++ crypto) ++ own) ++ last) is_fs2
     ∙ ap (λ (x : List FrameValue). (((x ++ acks) ++ crypto) ++ own) ++ last) (is_fs1 ∙ ap (λ (x : List FrameValue). x ++ marks_part w) is_fs0) ∙ simp append_assoc
 
--- frames that the layers below offer leave what waits in a space
-pub offered_stays : (b : Bool) (w : SpaceWaiting) (fs : List FrameValue) → AreOffered b fs → without_all w fs ≡ w
+-- frames that the layers below offer, and NEW_TOKENs, leave what else waits in a space
+pub record Beside (w v : SpaceWaiting) : Type 0 where
+  pub done : v.done ≡ w.done
+  pub ping : v.ping ≡ w.ping
+  pub crypto : v.crypto ≡ w.crypto
+  pub acks : v.acks ≡ w.acks
+  pub marks : v.marks ≡ w.marks
+
+pub offered_leaves : (b : Bool) (w : SpaceWaiting) (fs : List FrameValue) → AreOffered b fs → Beside w (without_all w fs)
 unfolding without_all without
-offered_stays b w [] h = refl
-offered_stays b w (frames.Stream id offset fin body ∷ fs) h = offered_stays b w fs h.3
-offered_stays b w (frames.ResetStream id code size ∷ fs) h = offered_stays b w fs h.3
-offered_stays b w (frames.StopSending id code ∷ fs) h = offered_stays b w fs h.3
-offered_stays b w (frames.MaxData limit ∷ fs) h = offered_stays b w fs h.3
-offered_stays b w (frames.MaxStreamData id limit ∷ fs) h = offered_stays b w fs h.3
-offered_stays b w (frames.MaxStreams dir limit ∷ fs) h = offered_stays b w fs h.3
-offered_stays b w (frames.Datagram body ∷ fs) h = offered_stays b w fs h.3
-offered_stays b w (frames.NewConnectionId new ∷ fs) h = offered_stays b w fs h.3
-offered_stays b w (frames.RetireConnectionId sequence ∷ fs) h = offered_stays b w fs h.3
-offered_stays b w (_ ∷ fs) h = cc
+offered_leaves b w [] h = record { done = refl; ping = refl; crypto = refl; acks = refl; marks = refl }
+offered_leaves b w (frames.Stream id offset fin body ∷ fs) h = offered_leaves b w fs h.3
+offered_leaves b w (frames.ResetStream id code size ∷ fs) h = offered_leaves b w fs h.3
+offered_leaves b w (frames.StopSending id code ∷ fs) h = offered_leaves b w fs h.3
+offered_leaves b w (frames.MaxData limit ∷ fs) h = offered_leaves b w fs h.3
+offered_leaves b w (frames.MaxStreamData id limit ∷ fs) h = offered_leaves b w fs h.3
+offered_leaves b w (frames.MaxStreams dir limit ∷ fs) h = offered_leaves b w fs h.3
+offered_leaves b w (frames.Datagram body ∷ fs) h = offered_leaves b w fs h.3
+offered_leaves b w (frames.NewConnectionId new ∷ fs) h = offered_leaves b w fs h.3
+offered_leaves b w (frames.RetireConnectionId sequence ∷ fs) h = offered_leaves b w fs h.3
+offered_leaves b w (frames.NewToken token ∷ fs) h =
+    let rest : Beside (without w (frames.NewToken token)) (without_all (without w (frames.NewToken token)) fs) = offered_leaves b (without w (frames.NewToken token)) fs h.3 in
+    record { done = rest.done; ping = rest.ping; crypto = rest.crypto; acks = rest.acks; marks = rest.marks }
+offered_leaves b w (_ ∷ fs) h = cc
+
+-- where numbers are those of packets, they are once such frames were taken
+pub offered_numbers : {S : Type 0} {issuer : Option (IpAddr → ℕ → List ℕ)} {ip : IpAddr} {words words' : Stream} {l l' : Lower S} {fs gs : List FrameValue} (in_data : Bool) (room left : ℕ) (w v : SpaceWaiting) (last : Bool) →
+    TakesOffered issuer ip in_data room w v words words' l l' fs gs left → (last ≡ true → ArePackets w.acks.ranges) → last ≡ true → ArePackets v.acks.ranges
+offered_numbers in_data room left w v last takes packets h =
+    subst (λ (p : PendingValues). ArePackets p.ranges) (sym (ap (λ (x : SpaceWaiting). x.acks) takes.rest ∙ (offered_leaves in_data w takes.own takes.are).acks)) (packets h)
 
 -- what is left once all parts were taken
-pub without_parts : {S : Type 0} (time room rest more left len len' : ℕ) (due due' in_data : Bool) (w w1 w2 w3 w4 : SpaceWaiting) (fs0 fs1 fs2 fs3 fs4 fs5 : List FrameValue) (l l' : Lower S) →
+pub without_parts : {S : Type 0} {issuer : Option (IpAddr → ℕ → List ℕ)} {ip : IpAddr} {words words' : Stream} {wt : SpaceWaiting} (time room rest more left len len' : ℕ) (due due' in_data : Bool) (w w1 w2 w3 w4 : SpaceWaiting) (fs0 fs1 fs2 fs3 fs4 fs5 : List FrameValue) (l l' : Lower S) →
     fs0 ≡ [] → fs1 ≡ fs0 ++ marks_part w → w1 ≡ without_all w (marks_part w) → TakesAck time due room w1 w2 fs1 fs2 len →
-    TakesCrypto rest w2 w3 fs2 fs3 more → TakesOffered in_data more l l' fs3 fs4 left → TakesAck time due' left w3 w4 fs4 fs5 len' → w4 ≡ without_all w fs5
+    TakesCrypto rest w2 w3 fs2 fs3 more → TakesOffered issuer ip in_data more w3 wt words words' l l' fs3 fs4 left → TakesAck time due' left wt w4 fs4 fs5 len' → w4 ≡ without_all w fs5
 without_parts time room rest more left len len' due due' in_data w w1 w2 w3 w4 fs0 fs1 fs2 fs3 fs4 fs5 l l' is_fs0 is_fs1 is_w1 takes crypto streams bundle =
     let all : fs5 ≡ marks_part w ++ (takes.acks ++ (crypto.frames ++ (streams.own ++ bundle.acks))) =
     parts_list w fs0 fs1 fs2 fs3 fs4 fs5 takes.acks crypto.frames streams.own bundle.acks is_fs0 is_fs1 takes.list crypto.list streams.list bundle.list in
     let w_acks : SpaceWaiting = without_all (without_all w (marks_part w)) takes.acks in
     let w_crypto : SpaceWaiting = without_all w_acks crypto.frames in
-    let behind : w4 ≡ without_all w_crypto bundle.acks =
-    bundle.rest ∙ ap (λ (x : SpaceWaiting). without_all x bundle.acks) (crypto.rest ∙ ap (λ (x : SpaceWaiting). without_all x crypto.frames) (takes.rest ∙ ap (λ (x : SpaceWaiting). without_all x takes.acks) is_w1)) in
-    let together : without_all w fs5 ≡ without_all w_crypto bundle.acks =
+    let w_own : SpaceWaiting = without_all w_crypto streams.own in
+    let behind : w4 ≡ without_all w_own bundle.acks =
+    bundle.rest ∙ ap (λ (x : SpaceWaiting). without_all x bundle.acks) (streams.rest ∙ ap (λ (x : SpaceWaiting). without_all x streams.own)
+    (crypto.rest ∙ ap (λ (x : SpaceWaiting). without_all x crypto.frames) (takes.rest ∙ ap (λ (x : SpaceWaiting). without_all x takes.acks) is_w1))) in
+    let together : without_all w fs5 ≡ without_all w_own bundle.acks =
     ap (λ (fs : List FrameValue). without_all w fs) all ∙ append_left w (marks_part w) (takes.acks ++ (crypto.frames ++ (streams.own ++ bundle.acks)))
     ∙ append_left (without_all w (marks_part w)) takes.acks (crypto.frames ++ (streams.own ++ bundle.acks)) ∙ append_left w_acks crypto.frames (streams.own ++ bundle.acks)
-    ∙ append_left w_crypto streams.own bundle.acks ∙ ap (λ (x : SpaceWaiting). without_all x bundle.acks) (offered_stays in_data w_crypto streams.own streams.are) in
+    ∙ append_left w_crypto streams.own bundle.acks in
     behind ∙ sym together
 
 -- ---- the steps of the streams
@@ -182,13 +204,13 @@ steps_by marks acks crypto own last no_marks no_acks no_crypto no_last =
     ∙ sealed_append crypto (own ++ last) ∙ ap (λ (xs : List Step). xs ++ sealed_steps (own ++ last)) no_crypto
     ∙ sealed_append own last ∙ ap (λ (xs : List Step). sealed_steps own ++ xs) no_last ∙ append-nil (sealed_steps own)
 
-pub parts_steps : {S : Type 0} (time room rest more left len len' : ℕ) (due due' in_data : Bool) (w w1 w2 w3 w4 : SpaceWaiting) (fs0 fs1 fs2 fs3 fs4 fs5 : List FrameValue) (l l' : Lower S) →
-    fs0 ≡ [] → fs1 ≡ fs0 ++ marks_part w → TakesAck time due room w1 w2 fs1 fs2 len → TakesCrypto rest w2 w3 fs2 fs3 more → (streams : TakesOffered in_data more l l' fs3 fs4 left) →
-    TakesAck time due' left w3 w4 fs4 fs5 len' → sealed_steps fs5 ≡ sealed_steps streams.own
+pub parts_steps : {S : Type 0} {issuer : Option (IpAddr → ℕ → List ℕ)} {ip : IpAddr} {words words' : Stream} {wt : SpaceWaiting} (time room rest more left len len' : ℕ) (due due' in_data : Bool) (w w1 w2 w3 w4 : SpaceWaiting) (fs0 fs1 fs2 fs3 fs4 fs5 : List FrameValue) (l l' : Lower S) →
+    fs0 ≡ [] → fs1 ≡ fs0 ++ marks_part w → TakesAck time due room w1 w2 fs1 fs2 len → TakesCrypto rest w2 w3 fs2 fs3 more → (streams : TakesOffered issuer ip in_data more w3 wt words words' l l' fs3 fs4 left) →
+    TakesAck time due' left wt w4 fs4 fs5 len' → sealed_steps fs5 ≡ sealed_steps streams.own
 parts_steps time room rest more left len len' due due' in_data w w1 w2 w3 w4 fs0 fs1 fs2 fs3 fs4 fs5 l l' is_fs0 is_fs1 takes crypto streams bundle =
     ap sealed_steps (parts_list w fs0 fs1 fs2 fs3 fs4 fs5 takes.acks crypto.frames streams.own bundle.acks is_fs0 is_fs1 takes.list crypto.list streams.list bundle.list)
     ∙ steps_by (marks_part w) takes.acks crypto.frames streams.own bundle.acks (marks_steps w) (sealed_ack time room w1 takes.acks due takes.part) (crypto_steps w2 rest crypto.frames crypto.part)
-    (sealed_ack time left w3 bundle.acks due' bundle.part)
+    (sealed_ack time left _ bundle.acks due' bundle.part)
 
 -- ---- the steps of the datagrams
 
@@ -218,20 +240,20 @@ datagrams_by marks acks crypto own last no_marks no_acks no_crypto no_last =
     ∙ datagrams_append crypto (own ++ last) ∙ ap (λ (xs : List datagrams.Step). xs ++ sealed_datagrams (own ++ last)) no_crypto
     ∙ datagrams_append own last ∙ ap (λ (xs : List datagrams.Step). sealed_datagrams own ++ xs) no_last ∙ append-nil (sealed_datagrams own)
 
-parts_datagrams : {S : Type 0} (time room rest more left len len' : ℕ) (due due' in_data : Bool) (w w1 w2 w3 w4 : SpaceWaiting) (fs0 fs1 fs2 fs3 fs4 fs5 : List FrameValue) (l l' : Lower S) →
-    fs0 ≡ [] → fs1 ≡ fs0 ++ marks_part w → TakesAck time due room w1 w2 fs1 fs2 len → TakesCrypto rest w2 w3 fs2 fs3 more → (own : TakesOffered in_data more l l' fs3 fs4 left) →
-    TakesAck time due' left w3 w4 fs4 fs5 len' → sealed_datagrams fs5 ≡ sealed_datagrams own.own
+parts_datagrams : {S : Type 0} {issuer : Option (IpAddr → ℕ → List ℕ)} {ip : IpAddr} {words words' : Stream} {wt : SpaceWaiting} (time room rest more left len len' : ℕ) (due due' in_data : Bool) (w w1 w2 w3 w4 : SpaceWaiting) (fs0 fs1 fs2 fs3 fs4 fs5 : List FrameValue) (l l' : Lower S) →
+    fs0 ≡ [] → fs1 ≡ fs0 ++ marks_part w → TakesAck time due room w1 w2 fs1 fs2 len → TakesCrypto rest w2 w3 fs2 fs3 more → (own : TakesOffered issuer ip in_data more w3 wt words words' l l' fs3 fs4 left) →
+    TakesAck time due' left wt w4 fs4 fs5 len' → sealed_datagrams fs5 ≡ sealed_datagrams own.own
 parts_datagrams time room rest more left len len' due due' in_data w w1 w2 w3 w4 fs0 fs1 fs2 fs3 fs4 fs5 l l' is_fs0 is_fs1 takes crypto own bundle =
     ap sealed_datagrams (parts_list w fs0 fs1 fs2 fs3 fs4 fs5 takes.acks crypto.frames own.own bundle.acks is_fs0 is_fs1 takes.list crypto.list own.list bundle.list)
     ∙ datagrams_by (marks_part w) takes.acks crypto.frames own.own bundle.acks (marks_datagrams w) (datagrams_ack time room w1 takes.acks due takes.part) (crypto_datagrams w2 rest crypto.frames crypto.part)
-    (datagrams_ack time left w3 bundle.acks due' bundle.part)
+    (datagrams_ack time left _ bundle.acks due' bundle.part)
 
 -- each DATAGRAM of the packet holds the oldest datagram, as each of the offered frames does
-pub parts_oldest : {S : Type 0} (time room rest more left len len' : ℕ) (due due' in_data : Bool) (w w1 w2 w3 w4 : SpaceWaiting) (fs0 fs1 fs2 fs3 fs4 fs5 : List FrameValue) (l l' : Lower S) →
-    fs0 ≡ [] → fs1 ≡ fs0 ++ marks_part w → TakesAck time due room w1 w2 fs1 fs2 len → TakesCrypto rest w2 w3 fs2 fs3 more → TakesOffered in_data more l l' fs3 fs4 left →
-    TakesAck time due' left w3 w4 fs4 fs5 len' → AllOldest fs5 l.datagrams
+pub parts_oldest : {S : Type 0} {issuer : Option (IpAddr → ℕ → List ℕ)} {ip : IpAddr} {words words' : Stream} {wt : SpaceWaiting} (time room rest more left len len' : ℕ) (due due' in_data : Bool) (w w1 w2 w3 w4 : SpaceWaiting) (fs0 fs1 fs2 fs3 fs4 fs5 : List FrameValue) (l l' : Lower S) →
+    fs0 ≡ [] → fs1 ≡ fs0 ++ marks_part w → TakesAck time due room w1 w2 fs1 fs2 len → TakesCrypto rest w2 w3 fs2 fs3 more → TakesOffered issuer ip in_data more w3 wt words words' l l' fs3 fs4 left →
+    TakesAck time due' left wt w4 fs4 fs5 len' → AllOldest fs5 l.datagrams
 parts_oldest time room rest more left len len' due due' in_data w w1 w2 w3 w4 fs0 fs1 fs2 fs3 fs4 fs5 l l' is_fs0 is_fs1 takes crypto own bundle =
-    let last : AllOldest (own.own ++ bundle.acks) l.datagrams = none_behind own.own bundle.acks l.datagrams (datagrams_ack time left w3 bundle.acks due' bundle.part) own.oldest in
+    let last : AllOldest (own.own ++ bundle.acks) l.datagrams = none_behind own.own bundle.acks l.datagrams (datagrams_ack time left _ bundle.acks due' bundle.part) own.oldest in
     let behind : AllOldest (crypto.frames ++ (own.own ++ bundle.acks)) l.datagrams = none_before crypto.frames (own.own ++ bundle.acks) l.datagrams (crypto_datagrams w2 rest crypto.frames crypto.part) last in
     let front : AllOldest (takes.acks ++ (crypto.frames ++ (own.own ++ bundle.acks))) l.datagrams =
     none_before takes.acks (crypto.frames ++ (own.own ++ bundle.acks)) l.datagrams (datagrams_ack time room w1 takes.acks due takes.part) behind in
@@ -266,32 +288,69 @@ cids_by marks acks crypto own last no_marks no_acks no_crypto no_last =
     ∙ cids_append crypto (own ++ last) ∙ ap (λ (xs : List ids.Step). xs ++ sealed_cids (own ++ last)) no_crypto
     ∙ cids_append own last ∙ ap (λ (xs : List ids.Step). sealed_cids own ++ xs) no_last ∙ append-nil (sealed_cids own)
 
-parts_cids : {S : Type 0} (time room rest more left len len' : ℕ) (due due' in_data : Bool) (w w1 w2 w3 w4 : SpaceWaiting) (fs0 fs1 fs2 fs3 fs4 fs5 : List FrameValue) (l l' : Lower S) →
-    fs0 ≡ [] → fs1 ≡ fs0 ++ marks_part w → TakesAck time due room w1 w2 fs1 fs2 len → TakesCrypto rest w2 w3 fs2 fs3 more → (own : TakesOffered in_data more l l' fs3 fs4 left) →
-    TakesAck time due' left w3 w4 fs4 fs5 len' → sealed_cids fs5 ≡ sealed_cids own.own
+parts_cids : {S : Type 0} {issuer : Option (IpAddr → ℕ → List ℕ)} {ip : IpAddr} {words words' : Stream} {wt : SpaceWaiting} (time room rest more left len len' : ℕ) (due due' in_data : Bool) (w w1 w2 w3 w4 : SpaceWaiting) (fs0 fs1 fs2 fs3 fs4 fs5 : List FrameValue) (l l' : Lower S) →
+    fs0 ≡ [] → fs1 ≡ fs0 ++ marks_part w → TakesAck time due room w1 w2 fs1 fs2 len → TakesCrypto rest w2 w3 fs2 fs3 more → (own : TakesOffered issuer ip in_data more w3 wt words words' l l' fs3 fs4 left) →
+    TakesAck time due' left wt w4 fs4 fs5 len' → sealed_cids fs5 ≡ sealed_cids own.own
 parts_cids time room rest more left len len' due due' in_data w w1 w2 w3 w4 fs0 fs1 fs2 fs3 fs4 fs5 l l' is_fs0 is_fs1 takes crypto own bundle =
     ap sealed_cids (parts_list w fs0 fs1 fs2 fs3 fs4 fs5 takes.acks crypto.frames own.own bundle.acks is_fs0 is_fs1 takes.list crypto.list own.list bundle.list)
     ∙ cids_by (marks_part w) takes.acks crypto.frames own.own bundle.acks (marks_cids w) (cids_ack time room w1 takes.acks due takes.part) (crypto_cids w2 rest crypto.frames crypto.part)
-    (cids_ack time left w3 bundle.acks due' bundle.part)
+    (cids_ack time left _ bundle.acks due' bundle.part)
 
 -- each frame of the packet that is theirs is the one that goes next, as each of the offered frames is
-pub parts_next : {S : Type 0} (time room rest more left len len' : ℕ) (due due' in_data : Bool) (w w1 w2 w3 w4 : SpaceWaiting) (fs0 fs1 fs2 fs3 fs4 fs5 : List FrameValue) (l l' : Lower S) →
-    fs0 ≡ [] → fs1 ≡ fs0 ++ marks_part w → TakesAck time due room w1 w2 fs1 fs2 len → TakesCrypto rest w2 w3 fs2 fs3 more → TakesOffered in_data more l l' fs3 fs4 left →
-    TakesAck time due' left w3 w4 fs4 fs5 len' → AllNext fs5 l.ids
+pub parts_next : {S : Type 0} {issuer : Option (IpAddr → ℕ → List ℕ)} {ip : IpAddr} {words words' : Stream} {wt : SpaceWaiting} (time room rest more left len len' : ℕ) (due due' in_data : Bool) (w w1 w2 w3 w4 : SpaceWaiting) (fs0 fs1 fs2 fs3 fs4 fs5 : List FrameValue) (l l' : Lower S) →
+    fs0 ≡ [] → fs1 ≡ fs0 ++ marks_part w → TakesAck time due room w1 w2 fs1 fs2 len → TakesCrypto rest w2 w3 fs2 fs3 more → TakesOffered issuer ip in_data more w3 wt words words' l l' fs3 fs4 left →
+    TakesAck time due' left wt w4 fs4 fs5 len' → AllNext fs5 l.ids
 parts_next time room rest more left len len' due due' in_data w w1 w2 w3 w4 fs0 fs1 fs2 fs3 fs4 fs5 l l' is_fs0 is_fs1 takes crypto own bundle =
-    let last : AllNext (own.own ++ bundle.acks) l.ids = no_cid_behind own.own bundle.acks l.ids (cids_ack time left w3 bundle.acks due' bundle.part) own.next in
+    let last : AllNext (own.own ++ bundle.acks) l.ids = no_cid_behind own.own bundle.acks l.ids (cids_ack time left _ bundle.acks due' bundle.part) own.next in
     let behind : AllNext (crypto.frames ++ (own.own ++ bundle.acks)) l.ids = no_cid_before crypto.frames (own.own ++ bundle.acks) l.ids (crypto_cids w2 rest crypto.frames crypto.part) last in
     let front : AllNext (takes.acks ++ (crypto.frames ++ (own.own ++ bundle.acks))) l.ids =
     no_cid_before takes.acks (crypto.frames ++ (own.own ++ bundle.acks)) l.ids (cids_ack time room w1 takes.acks due takes.part) behind in
     subst (λ (fs : List FrameValue). AllNext fs l.ids) (sym (parts_list w fs0 fs1 fs2 fs3 fs4 fs5 takes.acks crypto.frames own.own bundle.acks is_fs0 is_fs1 takes.list crypto.list own.list bundle.list))
     (no_cid_before (marks_part w) (takes.acks ++ (crypto.frames ++ (own.own ++ bundle.acks))) l.ids (marks_cids w) front)
 
+-- ---- the tokens
+
+-- each token of the packet is made as its turn comes, as each of the offered frames' is
+pub parts_issued : {S : Type 0} {words' : Stream} {wt : SpaceWaiting} (issuer : Option (IpAddr → ℕ → List ℕ)) (ip : IpAddr) (words : Stream) (time room rest more left len len' : ℕ) (due due' in_data : Bool) (w w1 w2 w3 w4 : SpaceWaiting)
+    (fs0 fs1 fs2 fs3 fs4 fs5 : List FrameValue) (l l' : Lower S) → fs0 ≡ [] → fs1 ≡ fs0 ++ marks_part w → w1 ≡ without_all w (marks_part w) → TakesAck time due room w1 w2 fs1 fs2 len →
+    TakesCrypto rest w2 w3 fs2 fs3 more → TakesOffered issuer ip in_data more w3 wt words words' l l' fs3 fs4 left → TakesAck time due' left wt w4 fs4 fs5 len' → AllIssued issuer ip fs5 w words
+parts_issued issuer ip words time room rest more left len len' due due' in_data w w1 w2 w3 w4 fs0 fs1 fs2 fs3 fs4 fs5 l l' is_fs0 is_fs1 is_w1 takes crypto own bundle =
+    let w_acks : SpaceWaiting = without_all (without_all w (marks_part w)) takes.acks in
+    let here : w3 ≡ without_all w_acks crypto.frames =
+    crypto.rest ∙ ap (λ (x : SpaceWaiting). without_all x crypto.frames) (takes.rest ∙ ap (λ (x : SpaceWaiting). without_all x takes.acks) is_w1) in
+    let last : AllIssued issuer ip (own.own ++ bundle.acks) (without_all w_acks crypto.frames) words =
+    none_issued_behind issuer ip own.own bundle.acks _ words (tokens_ack time left _ bundle.acks due' bundle.part) (subst (λ (x : SpaceWaiting). AllIssued issuer ip own.own x words) here own.issued) in
+    let behind : AllIssued issuer ip (crypto.frames ++ (own.own ++ bundle.acks)) w_acks words =
+    issued_before issuer ip crypto.frames (own.own ++ bundle.acks) w_acks words (tokens_crypto w2 rest crypto.frames crypto.part) last in
+    let front : AllIssued issuer ip (takes.acks ++ (crypto.frames ++ (own.own ++ bundle.acks))) (without_all w (marks_part w)) words =
+    issued_before issuer ip takes.acks (crypto.frames ++ (own.own ++ bundle.acks)) (without_all w (marks_part w)) words (tokens_ack time room w1 takes.acks due takes.part) behind in
+    subst (λ (fs : List FrameValue). AllIssued issuer ip fs w words) (sym (parts_list w fs0 fs1 fs2 fs3 fs4 fs5 takes.acks crypto.frames own.own bundle.acks is_fs0 is_fs1 takes.list crypto.list own.list bundle.list))
+    (issued_before issuer ip (marks_part w) (takes.acks ++ (crypto.frames ++ (own.own ++ bundle.acks))) w words (tokens_marks w) front)
+
+-- no others are made: the words are those behind the packet's tokens
+drawn_by : (marks acks crypto own last : List FrameValue) (words : Stream) → tokens_of marks ≡ [] → tokens_of acks ≡ [] → tokens_of crypto ≡ [] → tokens_of last ≡ [] →
+    behind_tokens (marks ++ (acks ++ (crypto ++ (own ++ last)))) words ≡ behind_tokens own words
+drawn_by marks acks crypto own last words no_marks no_acks no_crypto no_last =
+    behind_append marks (acks ++ (crypto ++ (own ++ last))) words ∙ ap (λ (x : Stream). behind_tokens (acks ++ (crypto ++ (own ++ last))) x) (undrawn marks words no_marks)
+    ∙ behind_append acks (crypto ++ (own ++ last)) words ∙ ap (λ (x : Stream). behind_tokens (crypto ++ (own ++ last)) x) (undrawn acks words no_acks)
+    ∙ behind_append crypto (own ++ last) words ∙ ap (λ (x : Stream). behind_tokens (own ++ last) x) (undrawn crypto words no_crypto)
+    ∙ behind_append own last words ∙ undrawn last (behind_tokens own words) no_last
+
+pub parts_drawn : {S : Type 0} {issuer : Option (IpAddr → ℕ → List ℕ)} {ip : IpAddr} {wt : SpaceWaiting} (words words' : Stream) (time room rest more left len len' : ℕ) (due due' in_data : Bool) (w w1 w2 w3 w4 : SpaceWaiting)
+    (fs0 fs1 fs2 fs3 fs4 fs5 : List FrameValue) (l l' : Lower S) → fs0 ≡ [] → fs1 ≡ fs0 ++ marks_part w → TakesAck time due room w1 w2 fs1 fs2 len → TakesCrypto rest w2 w3 fs2 fs3 more →
+    TakesOffered issuer ip in_data more w3 wt words words' l l' fs3 fs4 left → TakesAck time due' left wt w4 fs4 fs5 len' → words' ≡ behind_tokens fs5 words
+parts_drawn words words' time room rest more left len len' due due' in_data w w1 w2 w3 w4 fs0 fs1 fs2 fs3 fs4 fs5 l l' is_fs0 is_fs1 takes crypto own bundle =
+    own.drawn
+    ∙ sym (ap (λ (fs : List FrameValue). behind_tokens fs words) (parts_list w fs0 fs1 fs2 fs3 fs4 fs5 takes.acks crypto.frames own.own bundle.acks is_fs0 is_fs1 takes.list crypto.list own.list bundle.list)
+    ∙ drawn_by (marks_part w) takes.acks crypto.frames own.own bundle.acks words (tokens_marks w) (tokens_ack time room w1 takes.acks due takes.part) (tokens_crypto w2 rest crypto.frames crypto.part)
+    (tokens_ack time left _ bundle.acks due' bundle.part))
+
 -- ---- what they leave
 
 -- the frames of a packet leave of the layers below what the offered ones among them leave
-pub parts_leads : {S : Type 0} (time room rest more left len len' : ℕ) (due due' in_data : Bool) (w w1 w2 w3 w4 : SpaceWaiting) (fs0 fs1 fs2 fs3 fs4 fs5 : List FrameValue) (l l' : Lower S) →
-    fs0 ≡ [] → fs1 ≡ fs0 ++ marks_part w → TakesAck time due room w1 w2 fs1 fs2 len → TakesCrypto rest w2 w3 fs2 fs3 more → TakesOffered in_data more l l' fs3 fs4 left →
-    TakesAck time due' left w3 w4 fs4 fs5 len' → l' ≡ frames_sealed fs5 l
+pub parts_leads : {S : Type 0} {issuer : Option (IpAddr → ℕ → List ℕ)} {ip : IpAddr} {words words' : Stream} {wt : SpaceWaiting} (time room rest more left len len' : ℕ) (due due' in_data : Bool) (w w1 w2 w3 w4 : SpaceWaiting) (fs0 fs1 fs2 fs3 fs4 fs5 : List FrameValue) (l l' : Lower S) →
+    fs0 ≡ [] → fs1 ≡ fs0 ++ marks_part w → TakesAck time due room w1 w2 fs1 fs2 len → TakesCrypto rest w2 w3 fs2 fs3 more → TakesOffered issuer ip in_data more w3 wt words words' l l' fs3 fs4 left →
+    TakesAck time due' left wt w4 fs4 fs5 len' → l' ≡ frames_sealed fs5 l
 parts_leads time room rest more left len len' due due' in_data w w1 w2 w3 w4 fs0 fs1 fs2 fs3 fs4 fs5 l l' is_fs0 is_fs1 takes crypto own bundle =
     own.leads
     ∙ sym (sealed_same fs5 own.own l (parts_steps time room rest more left len len' due due' in_data w w1 w2 w3 w4 fs0 fs1 fs2 fs3 fs4 fs5 l l' is_fs0 is_fs1 takes crypto own bundle)
@@ -307,9 +366,9 @@ last_part time room rest left bundled true w v u acks crypto last same counts pa
 last_part time room rest left bundled false w v u acks crypto last same counts part bytes is e (AckPart.none none) = AckPart.none none
 
 -- the parts are the frames that may be taken
-pub taken_part : {S : Type 0} (time room count less most rest more left len len' : ℕ) (bundled : Option ℕ) (first last : Bool) (w w1 w2 w3 w4 : SpaceWaiting) (in_data : Bool) (fs0 fs1 fs2 fs3 fs4 fs5 : List FrameValue) (l l' : Lower S) →
+pub taken_part : {S : Type 0} {issuer : Option (IpAddr → ℕ → List ℕ)} {ip : IpAddr} {words words' : Stream} {wt : SpaceWaiting} (time room count less most rest more left len len' : ℕ) (bundled : Option ℕ) (first last : Bool) (w w1 w2 w3 w4 : SpaceWaiting) (in_data : Bool) (fs0 fs1 fs2 fs3 fs4 fs5 : List FrameValue) (l l' : Lower S) →
     first ≡ is_ack_first w.acks → last ≡ is_ack_last time bundled w.acks → fs0 ≡ [] → fs1 ≡ fs0 ++ marks_part w → w1 ≡ without_all w (marks_part w) → count ≡ length (marks_part w) → less ≡ room - count →
-    most ≤ less → (is_ack_owed w.acks ≡ true → most ≡ less) → TakesAck time first most w1 w2 fs1 fs2 len → rest ≡ less - len → TakesCrypto rest w2 w3 fs2 fs3 more → TakesOffered in_data more l l' fs3 fs4 left → TakesAck time last left w3 w4 fs4 fs5 len' →
+    most ≤ less → (is_ack_owed w.acks ≡ true → most ≡ less) → TakesAck time first most w1 w2 fs1 fs2 len → rest ≡ less - len → TakesCrypto rest w2 w3 fs2 fs3 more → TakesOffered issuer ip in_data more w3 wt words words' l l' fs3 fs4 left → TakesAck time last left wt w4 fs4 fs5 len' →
     TakenPart time bundled in_data w room fs5
 taken_part time room count less most rest more left len len' bundled first last w w1 w2 w3 w4 in_data fs0 fs1 fs2 fs3 fs4 fs5 l l' is_first is_last is_fs0 is_fs1 is_w1 is_count is_less few owed takes is_rest crypto streams bundle =
     let same : w1.acks ≡ w.acks = ap (λ (x : SpaceWaiting). x.acks) is_w1 ∙ marks_acks w in
@@ -320,8 +379,11 @@ taken_part time room count less most rest more left len len' bundled first last 
     let size : rest ≡ room - length (marks_part w) - length (frames_spelling takes.acks) = is_rest ∙ ap (λ (n : ℕ). n - len) behind ∙ ap (λ (n : ℕ). room - length (marks_part w) - n) takes.size in
     let is_w3 : w3 ≡ without_all (without_all w1 takes.acks) crypto.frames = crypto.rest ∙ ap (λ (x : SpaceWaiting). without_all x crypto.frames) takes.rest in
     let here : without_all w1 takes.acks ≡ without_all w (marks_part w ++ takes.acks) = ap (λ (x : SpaceWaiting). without_all x takes.acks) is_w1 ∙ sym (append_left w (marks_part w) takes.acks) in
+    let leaves : Beside w3 (without_all w3 streams.own) = offered_leaves in_data w3 streams.own streams.are in
+    let before : AckPart time w3 left bundle.acks last =
+    part_same time left _ w3 bundle.acks last (ap (λ (x : SpaceWaiting). x.acks) streams.rest ∙ leaves.acks) (ap (λ (x : SpaceWaiting). x.marks) streams.rest ∙ leaves.marks) bundle.part in
     let behind_all : AckPart time w left bundle.acks (is_ack_last time bundled w.acks) =
-    last_part time most rest left bundled (is_ack_last time bundled w.acks) w w1 w3 takes.acks crypto.frames bundle.acks (sym same) (sym counts) front bytes is_w3 refl (subst (λ (b : Bool). AckPart time w3 left bundle.acks b) is_last bundle.part) in
+    last_part time most rest left bundled (is_ack_last time bundled w.acks) w w1 w3 takes.acks crypto.frames bundle.acks (sym same) (sym counts) front bytes is_w3 refl (subst (λ (b : Bool). AckPart time w3 left bundle.acks b) is_last before) in
     record {
       acks = takes.acks;
       most = most;
@@ -384,6 +446,22 @@ own_next time bundled in_data w room fs d taken h =
     let all : fs ≡ front ++ (taken.own ++ taken.last) = taken.all ∙ simp append_assoc in
     next_first taken.own taken.last d
     (behind_no_cid front (taken.own ++ taken.last) d (front_cids time bundled in_data w room fs taken) (subst (λ (x : List FrameValue). AllNext x d) all h))
+
+-- and those of the offered frames among them are made as their turn comes, where all are
+pub front_tokens : (time : ℕ) (bundled : Option ℕ) (in_data : Bool) (w : SpaceWaiting) (room : ℕ) (fs : List FrameValue) → (taken : TakenPart time bundled in_data w room fs) →
+    tokens_of (marks_part w ++ (taken.acks ++ taken.crypto)) ≡ []
+front_tokens time bundled in_data w room fs taken =
+    tokens_append (marks_part w) (taken.acks ++ taken.crypto) ∙ ap (λ (xs : List (List ℕ)). xs ++ tokens_of (taken.acks ++ taken.crypto)) (tokens_marks w) ∙ tokens_append taken.acks taken.crypto
+    ∙ ap (λ (xs : List (List ℕ)). xs ++ tokens_of taken.crypto) (tokens_ack time taken.most w taken.acks (is_ack_first w.acks) taken.ack)
+    ∙ tokens_crypto (without_all w (marks_part w ++ taken.acks)) _ taken.crypto taken.part
+
+pub own_issued : (issuer : Option (IpAddr → ℕ → List ℕ)) (ip : IpAddr) (words : Stream) (time : ℕ) (bundled : Option ℕ) (in_data : Bool) (w : SpaceWaiting) (room : ℕ) (fs : List FrameValue) →
+    (taken : TakenPart time bundled in_data w room fs) → AllIssued issuer ip fs w words → AllIssued issuer ip taken.own (without_all w (marks_part w ++ (taken.acks ++ taken.crypto))) words
+own_issued issuer ip words time bundled in_data w room fs taken h =
+    let front : List FrameValue = marks_part w ++ (taken.acks ++ taken.crypto) in
+    let all : fs ≡ front ++ (taken.own ++ taken.last) = taken.all ∙ simp append_assoc in
+    issued_first issuer ip taken.own taken.last (without_all w front) words
+    (issued_past issuer ip front (taken.own ++ taken.last) w words (front_tokens time bundled in_data w room fs taken) (subst (λ (x : List FrameValue). AllIssued issuer ip x w words) all h))
 
 -- no CRYPTO bytes wait, or there is no room for them
 pub crypto_none : (room : ℕ) (w : SpaceWaiting) (fs : List FrameValue) → (crypto_waits w ≡ false) ⊎ (room ≤ 17) → TakesCrypto room w w fs fs room
@@ -493,6 +571,13 @@ ack_leaves time room w fs true (AckPart.left_out ack says long is) =
 ack_leaves time room w fs false (AckPart.none is) =
     (record { done = ap (λ (x : List FrameValue). (without_all w x).done) is; ping = ap (λ (x : List FrameValue). (without_all w x).ping) is }, ap (λ (x : List FrameValue). (without_all w x).crypto) is)
 
+-- and the NEW_TOKENs
+ack_tokens : (time room : ℕ) (w : SpaceWaiting) (fs : List FrameValue) (b : Bool) → AckPart time w room fs b → (without_all w fs).tokens ≡ w.tokens
+unfolding without_all without
+ack_tokens time room w fs true (AckPart.one ack says fits is) = ap (λ (x : List FrameValue). (without_all w x).tokens) is
+ack_tokens time room w fs true (AckPart.left_out ack says long is) = ap (λ (x : List FrameValue). (without_all w x).tokens) is
+ack_tokens time room w fs false (AckPart.none is) = ap (λ (x : List FrameValue). (without_all w x).tokens) is
+
 -- CRYPTO frames leave the marks
 crypto_leaves : (w : SpaceWaiting) (room : ℕ) (fs : List FrameValue) → CryptoPart w room fs → LeavesMarks w (without_all w fs)
 unfolding without_all without CryptoPart
@@ -513,10 +598,10 @@ none_offered true false b e f = f refl
 none_offered false false b e f = refl
 
 -- what was taken, part by part, leaves no frame that has room where it leaves 64 bytes of the room
-pub taken_full : {S : Type 0} (time room count less most rest more left len len' : ℕ) (due due' in_data : Bool) (w w1 w2 w3 w4 : SpaceWaiting) (fs0 fs1 fs2 fs3 fs4 fs5 : List FrameValue) (l l' : Lower S) →
+pub taken_full : {S : Type 0} {issuer : Option (IpAddr → ℕ → List ℕ)} {ip : IpAddr} {words words' : Stream} {wt : SpaceWaiting} (time room count less most rest more left len len' : ℕ) (due due' in_data : Bool) (w w1 w2 w3 w4 : SpaceWaiting) (fs0 fs1 fs2 fs3 fs4 fs5 : List FrameValue) (l l' : Lower S) →
     fs0 ≡ [] → fs1 ≡ fs0 ++ marks_part w → w1 ≡ without_all w (marks_part w) → count ≡ length (marks_part w) → less ≡ room - count → TakesAck time due most w1 w2 fs1 fs2 len → rest ≡ less - len →
-    TakesCrypto rest w2 w3 fs2 fs3 more → (17 < more → crypto_waits w3 ≡ false) → TakesOffered in_data more l l' fs3 fs4 left →
-    (in_data ≡ true → 64 ≤ left → (streams_offer l'.streams || ids_offer l'.ids) ≡ false) → TakesAck time due' left w3 w4 fs4 fs5 len' → 64 ≤ room - length (frames_spelling fs5) →
+    TakesCrypto rest w2 w3 fs2 fs3 more → (17 < more → crypto_waits w3 ≡ false) → TakesOffered issuer ip in_data more w3 wt words words' l l' fs3 fs4 left →
+    (in_data ≡ true → 64 ≤ left → (streams_offer l'.streams || (ids_offer l'.ids || tokens_wait wt)) ≡ false) → TakesAck time due' left wt w4 fs4 fs5 len' → 64 ≤ room - length (frames_spelling fs5) →
     offers_here in_data w4 l'.streams l'.ids ≡ false
 taken_full time room count less most rest more left len len' due due' in_data w w1 w2 w3 w4 fs0 fs1 fs2 fs3 fs4 fs5 l l' is_fs0 is_fs1 is_w1 is_count is_less takes is_rest crypto bytes offered layers bundle spare =
     let all : fs5 ≡ marks_part w ++ (takes.acks ++ (crypto.frames ++ (offered.own ++ bundle.acks))) =
@@ -541,14 +626,17 @@ taken_full time room count less most rest more left len len' due due' in_data w 
     ) in
     let before = ack_leaves time most w1 takes.acks due takes.part in
     let between = crypto_leaves w2 rest crypto.frames crypto.part in
-    let behind = ack_leaves time left w3 bundle.acks due' bundle.part in
+    let own : Beside w3 (without_all w3 offered.own) = offered_leaves in_data w3 offered.own offered.are in
+    let behind = ack_leaves time left _ bundle.acks due' bundle.part in
     let gone = marks_gone w in
     let done : w4.done ≡ false =
-    ap (λ (x : SpaceWaiting). x.done) bundle.rest ∙ behind.0.done ∙ ap (λ (x : SpaceWaiting). x.done) crypto.rest ∙ between.done ∙ ap (λ (x : SpaceWaiting). x.done) takes.rest ∙ before.0.done
+    ap (λ (x : SpaceWaiting). x.done) bundle.rest ∙ behind.0.done ∙ ap (λ (x : SpaceWaiting). x.done) offered.rest ∙ own.done ∙ ap (λ (x : SpaceWaiting). x.done) crypto.rest ∙ between.done ∙ ap (λ (x : SpaceWaiting). x.done) takes.rest ∙ before.0.done
     ∙ ap (λ (x : SpaceWaiting). x.done) is_w1 ∙ gone.0 in
     let ping : w4.ping ≡ false =
-    ap (λ (x : SpaceWaiting). x.ping) bundle.rest ∙ behind.0.ping ∙ ap (λ (x : SpaceWaiting). x.ping) crypto.rest ∙ between.ping ∙ ap (λ (x : SpaceWaiting). x.ping) takes.rest ∙ before.0.ping
+    ap (λ (x : SpaceWaiting). x.ping) bundle.rest ∙ behind.0.ping ∙ ap (λ (x : SpaceWaiting). x.ping) offered.rest ∙ own.ping ∙ ap (λ (x : SpaceWaiting). x.ping) crypto.rest ∙ between.ping ∙ ap (λ (x : SpaceWaiting). x.ping) takes.rest ∙ before.0.ping
     ∙ ap (λ (x : SpaceWaiting). x.ping) is_w1 ∙ gone.1 in
-    let queue : w4.crypto ≡ w3.crypto = ap (λ (x : SpaceWaiting). x.crypto) bundle.rest ∙ behind.1 in
+    let queue : w4.crypto ≡ w3.crypto = ap (λ (x : SpaceWaiting). x.crypto) bundle.rest ∙ behind.1 ∙ ap (λ (x : SpaceWaiting). x.crypto) offered.rest ∙ own.crypto in
+    let tokens = ap (λ (x : SpaceWaiting). x.tokens) bundle.rest ∙ ack_tokens time left _ bundle.acks due' bundle.part in
     let none : crypto_waits w4 ≡ false = ap (λ (x : Buffer). has_bytes (waiting x)) queue ∙ bytes (omega (arith, enough, offered.fits)) in
-    none_offered in_data (wants_here w4) (streams_offer l'.streams || ids_offer l'.ids) (none_here w4.done w4.ping (crypto_waits w4) done ping none) (λ e. layers e enough)
+    none_offered in_data (wants_here w4) (streams_offer l'.streams || (ids_offer l'.ids || tokens_wait w4)) (none_here w4.done w4.ping (crypto_waits w4) done ping none)
+    (λ e. ap (λ (n : ℕ). streams_offer l'.streams || (ids_offer l'.ids || not (n == 0))) tokens ∙ layers e enough)

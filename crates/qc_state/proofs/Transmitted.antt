@@ -33,7 +33,7 @@ use Rattle.qc_state.specs.Recovering.{loss_time}
 use Rattle.qc_state.specs.Batches.{next_segment}
 use Rattle.qc_state.specs.Sending.{going_tried, internal_error, Carries, Choice, Closes, MayBegin, MayTransmit, application_close, begun_after, begun_view, close_frame, closing_frame, drops_initial, flown_after, initial_left, is_flown, is_key_used_up, is_used_up, is_token_too_long, kill_in, owes_in, packet_after, packet_size, sealed_in, spared_after, told_close, transmit_after, Sent, Ending, Went, Held, Hushed, Died, ending_after, packets_after, Going, going_from, MayFollow, MayAll, MayEnd, handshake_left, finished_after, gone_after, begun_batch, room_in, room_of, held_after, is_silent, limit_in, paced_until, quiet_by, quiet_of, spent_after, told_sent, Dies, DiesProbing, MayProbe, Probed, is_key_nearly_used_up, probe_begun_after, probe_frames, probe_sealed, probe_size, probed_after}
 use Rattle.qc_state.specs.Stopping.{given_after, key_limit_error, killed_after, stopped_after, violation_at}
-use Rattle.qc_state.specs.Types.{Types, Meaning}
+use Rattle.qc_state.specs.Types.{TokenMaker, Types, Meaning}
 use Rattle.qc_state.specs.Updating.{tried_after, tried_view}
 use Rattle.qc_state.specs.View.{View, At, at}
 use Rattle.qc_state.proofs.DatagramSteps.{carried_oldest}
@@ -210,10 +210,11 @@ module _ {t : Types} where
 
   -- what is known of a packet with these frames as it is sealed, once it was begun
   pub record IsSealable (time : ℕ) (s : View t) (form : Form) (fs : List FrameValue) : Type 0 where
+    pub token : TokenMaker t
     pub closing : Bool
     pub room : ℕ
     pub small : room ≤ 65527
-    pub carries : Carries closing time s form room fs
+    pub carries : Carries token closing time s form room fs
     pub takes : AllMay (sealed_steps fs) s.lower.streams
     pub oldest : AllOldest fs s.lower.datagrams
     pub next : AllNext fs s.lower.ids
@@ -231,7 +232,7 @@ module _ {t : Types} where
   closes_only : (m : Meaning t) (time : ℕ) (s : View t) (b : Batch) (p : Sent) → MayFollow m time s b p → ClosesOnly (rank_of s.life.state) p.frames
   closes_only m time s b p may = carried_closes may.carries
     where
-      carried_closes : Carries b.closing time (begun_view s (number_space p.form) p.opens) p.form (room_in (begun_batch s (number_space p.form) p.opens b) (begun_view s (number_space p.form) p.opens) p.form) p.frames → ClosesOnly (rank_of s.life.state) p.frames
+      carried_closes : Carries m.token b.closing time (begun_view s (number_space p.form) p.opens) p.form (room_in (begun_batch s (number_space p.form) p.opens b) (begun_view s (number_space p.form) p.opens) p.form) p.frames → ClosesOnly (rank_of s.life.state) p.frames
       carried_closes (Carries.a_close owed gs n holds is) = λ r. padded_closes n p.frames gs is (closes_close time (begun_view s (number_space p.form) p.opens) (number_space p.form) _ gs holds)
       carried_closes (Carries.what_waits free gs n wait is) = λ r. absurd (omega (arith, r, open_rank s.life.state (may.begins.turn.unclosed free)))
 
@@ -255,16 +256,17 @@ module _ {t : Types} where
   unfolding is_key_used_up
   sealable m time p a b may =
       let room : ℕ = room_in (begun_batch a.state (number_space p.form) p.opens b) (begun_view a.state (number_space p.form) p.opens) p.form in
-      let carries : Carries b.closing time (begun_after (number_space p.form) p.opens a).state p.form room p.frames =
-      subst (λ (s : View t). Carries b.closing time s p.form room p.frames) (sym (begun_same (number_space p.form) p.opens a)) may.carries in
+      let carries : Carries m.token b.closing time (begun_after (number_space p.form) p.opens a).state p.form room p.frames =
+      subst (λ (s : View t). Carries m.token b.closing time s p.form room p.frames) (sym (begun_same (number_space p.form) p.opens a)) may.carries in
       record {
+        token = m.token;
         closing = b.closing;
         room = room;
         small = room_small (begun_batch a.state (number_space p.form) p.opens b) (begun_view a.state (number_space p.form) p.opens) p.form may.sized;
         carries = carries;
-        takes = carried_may b.closing time (begun_after (number_space p.form) p.opens a).state p.form _ p.frames carries;
-        oldest = carried_oldest b.closing time (begun_after (number_space p.form) p.opens a).state p.form _ p.frames carries;
-        next = carried_next b.closing time (begun_after (number_space p.form) p.opens a).state p.form _ p.frames carries;
+        takes = carried_may m.token b.closing time (begun_after (number_space p.form) p.opens a).state p.form _ p.frames carries;
+        oldest = carried_oldest m.token b.closing time (begun_after (number_space p.form) p.opens a).state p.form _ p.frames carries;
+        next = carried_next m.token b.closing time (begun_after (number_space p.form) p.opens a).state p.form _ p.frames carries;
         closes = subst (λ (l : Life). ClosesOnly (rank_of l.state) p.frames) (sym (begun_life (number_space p.form) p.opens a)) (closes_only m time a.state b p may);
         fresh = subst (λ (k : KeyGroup t.H t.P). reaches_limit 0 (usage_of k p.form) ≡ false) (sym (begun_keys (number_space p.form) p.opens a)) (unlimited b a.state p.form may.begins.fresh).0;
         alive = subst (λ (l : Life). is_drained l.state ≡ false) (sym (begun_life (number_space p.form) p.opens a)) may.begins.turn.alive;
@@ -394,15 +396,16 @@ module _ {t : Types} where
   probe_sealable m time size quiet b a due kill =
       let c : At t = probe_begun_after m time quiet b a in
       let n : ℕ = size - packet_size c.state form.OneRtt (Ping ∷ []) in
-      let carries : Carries false time c.state form.OneRtt 0 (Ping ∷ replicate n Padding) = Carries.what_waits refl (Ping ∷ []) n (probe_ping m time quiet b a, tt) refl in
+      let carries : Carries m.token false time c.state form.OneRtt 0 (Ping ∷ replicate n Padding) = Carries.what_waits refl (Ping ∷ []) n (probe_ping m time quiet b a, tt) refl in
       record {
+        token = m.token;
         closing = false;
         room = 0;
         small = omega arith;
         carries = carries;
-        takes = carried_may false time c.state form.OneRtt 0 (Ping ∷ replicate n Padding) carries;
-        oldest = carried_oldest false time c.state form.OneRtt 0 (Ping ∷ replicate n Padding) carries;
-        next = carried_next false time c.state form.OneRtt 0 (Ping ∷ replicate n Padding) carries;
+        takes = carried_may m.token false time c.state form.OneRtt 0 (Ping ∷ replicate n Padding) carries;
+        oldest = carried_oldest m.token false time c.state form.OneRtt 0 (Ping ∷ replicate n Padding) carries;
+        next = carried_next m.token false time c.state form.OneRtt 0 (Ping ∷ replicate n Padding) carries;
         closes = λ r. absurd (omega (arith, r, open_rank c.state.life.state (established_open c.state.life.state (probe_open m time size quiet b a due))));
         fresh = subst (λ (k : KeyGroup t.H t.P). reaches_limit 0 (usage_of k form.OneRtt) ≡ false) (sym (probe_keys m time quiet b a)) (unlimited b a.state form.OneRtt kill).0;
         alive = established_alive c.state.life.state (probe_open m time size quiet b a due);

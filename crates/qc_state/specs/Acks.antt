@@ -62,6 +62,12 @@ pub record IsLongAck (time : ℕ) (w : SpaceWaiting) (room : ℕ) : Type 0 where
   pub says : SaysAck time w ack
   pub long : room < length (frames_spelling (frames.Ack ack ∷ []))
 
+-- the ACK of a space at a time has no more bytes than there is room for
+pub record IsShortAck (time : ℕ) (w : SpaceWaiting) (room : ℕ) : Type 0 where
+  pub ack : AckValue
+  pub says : SaysAck time w ack
+  pub short : length (frames_spelling (frames.Ack ack ∷ [])) ≤ room
+
 -- the ACK in a list of its own where one is due, else no frame; one that has more bytes than there is room for is left out
 pub data AckPart (time : ℕ) (w : SpaceWaiting) (room : ℕ) (fs : List FrameValue) : Bool → Type 0 where
   one : (ack : AckValue) → SaysAck time w ack → length (frames_spelling (frames.Ack ack ∷ [])) ≤ room → fs ≡ frames.Ack ack ∷ [] → AckPart time w room fs true

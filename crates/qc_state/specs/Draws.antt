@@ -1,6 +1,7 @@
 -- What a connection draws of its source of random words, and in which order.
 use Rattle.std.specs.Prelude.{ℕ, ◌+◌, ◌%◌, ◌==◌, ◌&&◌, Bool, nat_lt, if◌then◌else◌}
-use Rattle.rand_core.specs.Stream.{Stream, next_u32, next_u64}
+use Rattle.rand_core.specs.Stream.{Stream, fill_bytes, next_u32, next_u64}
+use Rattle.qc_token.specs.Nonce.{nonce_of}
 
 -- the next word of 64 bits
 abbrev pub word : Stream → ℕ
@@ -17,6 +18,14 @@ bit s = (next_u32 s).0 % 2 == 1
 -- the words behind it
 abbrev pub behind_bit : Stream → Stream
 behind_bit s = (next_u32 s).1
+
+-- the number of the next sixteen bytes, with which a token is made
+abbrev pub nonce : Stream → ℕ
+nonce s = nonce_of (fill_bytes 16 s).0
+
+-- the words behind them
+abbrev pub behind_nonce : Stream → Stream
+behind_nonce s = (fill_bytes 16 s).1
 
 -- As a connection is made it draws first how many packets the first 1-RTT keys seal before others take their place, from 10 to 999;
 abbrev pub key_phase_of : Stream → ℕ

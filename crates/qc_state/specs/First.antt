@@ -20,6 +20,8 @@ use Rattle.qc_state.specs.Draws.{word, key_phase_of, spins_of, filter_words, wor
 use Rattle.qc_state.specs.Numbers.{no_numbers}
 use Rattle.qc_state.specs.Setup.{idle_limit_of}
 use Rattle.qc_state.specs.Timers.{no_timers}
+use Rattle.qc_state.specs.Tokens.{first_tokens}
+use Rattle.qc_state.specs.declared.tokens.Issuer.{Issuer}
 use Rattle.qc_state.specs.Types.{Types, Meaning}
 use Rattle.qc_path.specs.declared.controller.Controller.{Ghosts as Control}
 use Rattle.qc_recovery.specs.Calls.{begun_recovery}
@@ -53,9 +55,13 @@ fixed_of side version local_cid first_cid cid_lifetime preferred local_ip transp
   pads = transport.pad_to_mtu;
 }
 
+-- a space in which nothing waits but these CRYPTO bytes, and so many NEW_TOKENs
+abbrev pub something_waits : List ℕ → (tokens : ℕ) → SpaceWaiting
+something_waits crypto tokens = record { done = false; ping = false; crypto = bytes_written crypto nothing_written; tokens = tokens; acks = record { ranges = []; marks = no_marks }; marks = None; probes = 0 }
+
 -- a space in which nothing waits but these CRYPTO bytes
 abbrev pub nothing_waits : List ℕ → SpaceWaiting
-nothing_waits crypto = record { done = false; ping = false; crypto = bytes_written crypto nothing_written; acks = record { ranges = []; marks = no_marks }; marks = None; probes = 0 }
+nothing_waits crypto = something_waits crypto 0
 
 -- a configuration, by which larger datagrams are looked for as it says, or not at all
 abbrev pub allowed_by : (allow_mtud : Bool) → TransportValues → TransportValues
@@ -72,9 +78,9 @@ first_streams side transport =
 
 module _ {t : Types} where
   -- a connection that was just made at this time: it has the keys of the Initial space, nothing waits but what its session wrote, from
-  -- the start of that space's CRYPTO stream, and it has drawn of these random words
-  abbrev pub just_made : SpaceKeys t.H t.P → t.S → (hello token : List ℕ) → (words : Stream) → Fixed → Paths t.C → TransportValues → ℕ → View t
-  just_made keys session hello token words fixed paths transport time = record {
+  -- the start of that space's CRYPTO stream, and so many NEW_TOKENs, which this makes, and it has drawn of these random words
+  abbrev pub just_made : SpaceKeys t.H t.P → t.S → (hello token : List ℕ) → (words : Stream) → Fixed → Paths t.C → Option (Issuer t.K t.T) → (tokens : ℕ) → TransportValues → ℕ → View t
+  just_made keys session hello token words fixed paths issuer tokens transport time = record {
     numbers = record {
       spaces = record { initial = no_numbers time; handshake = no_numbers time; application = no_numbers time };
       filter = first_skips (word (filter_words transport.allow_spin words));
@@ -88,12 +94,12 @@ module _ {t : Types} where
       spaces = record {
         initial = nothing_waits hello;
         handshake = nothing_waits [];
-        application = nothing_waits [];
+        application = something_waits [] tokens;
       };
       close_owed = false;
       bundled = None;
     };
-    setup = record { fixed = fixed; peer = None; token = None; initial_token = token; retry_cid = None; random = words_left transport.allow_spin words };
+    setup = record { fixed = fixed; peer = None; token = None; initial_token = token; retry_cid = None; drawn = record { spin = false; flip = false }; random = words_left transport.allow_spin words };
     lower = record {
       session = session;
       ids = first_ids paths.current.remote_cid (first_local_cids (length fixed.local_cid) fixed.cid_lifetime time fixed.issued);
@@ -102,6 +108,7 @@ module _ {t : Types} where
       streams = first_streams fixed.side transport;
       datagrams = new_datagrams transport.datagram_receive_buffer_size transport.datagram_send_buffer_size;
     };
+    issuer = issuer;
   }
 
   -- a client that was just made: its keys are those of the destination id of its first packets, which packets to the server carry
@@ -109,11 +116,11 @@ module _ {t : Types} where
   unfoldable pub first_view : Meaning t → t.S → (words : Stream) → Fixed → SocketAddr → (first_cid token : List ℕ) → TransportValues → t.C → ℕ → View t
   first_view m session words fixed remote first_cid token transport congestion time =
       just_made (new_keys m.seal_limit m.failure_limit (m.initial session first_cid Client)) (m.after_write session) (m.writes session) token words fixed
-      (only_path (new_path remote first_cid true (first_path m.control transport congestion time)) None) transport time
+      (only_path (new_path remote first_cid true (first_path m.control transport congestion time)) None) None 0 transport time
 
-  -- a server that was just made: its keys are those of the destination id of the client's first packets, it knows the client's
-  -- id, and it waits for the first packet
-  unfoldable pub server_view : Meaning t → t.S → (words : Stream) → Fixed → SocketAddr → (remote_cid : List ℕ) → (validated : Bool) → TransportValues → t.C → ℕ → View t
-  server_view m session words fixed remote remote_cid validated transport congestion time =
+  -- a server that was just made: its keys are those of the destination id of the client's first packets, it knows the client's id, it makes
+  -- these tokens, some of which wait where the client's address is validated, and it waits for the first packet
+  unfoldable pub server_view : Meaning t → t.S → (words : Stream) → Fixed → SocketAddr → (remote_cid : List ℕ) → (validated : Bool) → Issuer t.K t.T → TransportValues → t.C → ℕ → View t
+  server_view m session words fixed remote remote_cid validated issuer transport congestion time =
       just_made (new_keys m.seal_limit m.failure_limit (m.initial session fixed.first_cid Server)) session [] [] words fixed
-      (only_path (new_path remote remote_cid validated (first_path m.control transport congestion time)) (Some remote_cid)) transport time
+      (only_path (new_path remote remote_cid validated (first_path m.control transport congestion time)) (Some remote_cid)) (Some issuer) (first_tokens validated issuer) transport time

@@ -24,7 +24,8 @@ has_numbers_alone (frames.RetireConnectionId sequence) = true
 has_numbers_alone _ = false
 
 -- Each CRYPTO byte that was written waits, is in flight, or was acknowledged (RFC 9000, section 13.3). What is kept of a frame while its packet is in
--- flight: frames that are sent again where it is lost, but for STREAM, and which numbers an ACK acknowledged
+-- flight: frames that are sent again where it is lost, but for STREAM, and which numbers an ACK acknowledged; of a NEW_TOKEN that it was one, since
+-- another token is made then
 abbrev pub kept_of : FrameValue → List FrameValue
 kept_of frames.HandshakeDone = frames.HandshakeDone ∷ []
 kept_of (frames.Crypto offset body) = frames.Crypto offset body ∷ []
@@ -33,7 +34,7 @@ kept_of frames.Padding = []
 kept_of frames.Ping = []
 kept_of (frames.ResetStream id code size) = frames.ResetStream id code size ∷ []
 kept_of (frames.StopSending id code) = frames.StopSending id code ∷ []
-kept_of (frames.NewToken token) = []
+kept_of (frames.NewToken token) = frames.NewToken [] ∷ []
 kept_of (frames.Stream id offset fin body) = []
 kept_of (frames.MaxData limit) = frames.MaxData limit ∷ []
 kept_of (frames.MaxStreamData id limit) = frames.MaxStreamData id limit ∷ []

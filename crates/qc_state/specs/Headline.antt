@@ -242,6 +242,7 @@ module _ {t : Types} where
     pub waiting : s'.waiting ≡ s.waiting
     pub setup : s'.setup ≡ s.setup
     pub lower : (reported s').lower ≡ (reported s).lower
+    pub issuer : s'.issuer ≡ s.issuer
 
   -- datagrams none of whose packets opened change only counts
   unfoldable pub Harmless : View t → List Input → List Step → View t → Type 0

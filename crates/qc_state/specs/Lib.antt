@@ -32,6 +32,7 @@ pub mod Streams
 pub mod Taking
 pub mod Timeouts
 pub mod Timers
+pub mod Tokens
 pub mod Types
 pub mod Updating
 pub mod Verdicts

@@ -54,14 +54,14 @@ use Rattle.qc_state.specs.Draws.{word}
 use Rattle.qc_state.specs.Life.{rank_of, is_open, is_over, is_closed, is_drained, reason_given, life_raised, life_closed, life_drained, life_established, data_ready, token_learned, identifiers_wanted, retirement_told, token_told, ready_reported, connected_reported, datagram_heard, more_heard, heard_reported, all_heard_reported, lost_reported, notice_reported, notices_reported, drained_reported, is_established, is_handshake}
 use Rattle.qc_state.specs.Numbers.{next_number, received_number, number_used, number_skipped, is_skipped, is_new_in, came_in, number_entered, number_accepted, number_acked, space_renewed}
 use Rattle.qc_state.specs.Forms.{is_early, number_space}
-use Rattle.qc_state.specs.Keys.{NewKeys, NoKeys, HandshakeKeys, DataKeys, epoch_in, has_keys_for, key_acked, key_discarded, key_opened, key_used, failure_counted, keys_given, keys_dropped, ring_of, sets_floor, key_updated, ring_may_update, initial_renewed}
+use Rattle.qc_state.specs.Keys.{NewKeys, NoKeys, HandshakeKeys, DataKeys, epoch_in, form_in, has_keys_for, key_acked, key_discarded, key_opened, key_used, failure_counted, keys_given, keys_dropped, ring_of, sets_floor, key_updated, ring_may_update, initial_renewed}
 use Rattle.qc_state.specs.Flight.{flown_packet}
 use Rattle.qc_state.specs.Ids.{active_limit, fired_ids, lost_ids}
 use Rattle.qc_state.specs.Lower.{bytes_came, frames_sealed, ids_stepped, session_asked, session_read, session_wrote, flight_dropped, packet_flown, packets_settled, timer_fired, streams_stepped, datagrams_stepped, frame_handed, limits_learned, streams_closed, event_told, events_told}
 use Rattle.qc_state.specs.Offers.{packet_begun}
 use Rattle.qc_state.specs.Paths.{is_blocked, path_capped, path_probed, path_quiet, path_sent, path_received, path_accepted, path_kept, path_named, path_spun, peer_fixed}
 use Rattle.qc_state.specs.Recovering.{loss_time, probe_timeout_now}
-use Rattle.qc_state.specs.Setup.{idle_limit_now, packet_drawn, parameters_known, peer_delay, retry_taken, token_expected, word_drawn}
+use Rattle.qc_state.specs.Setup.{idle_limit_now, packet_drawn, parameters_known, peer_delay, retry_taken, token_expected, tokens_drawn, word_drawn}
 use Rattle.qc_state.specs.Spaces.{is_space}
 use Rattle.qc_state.specs.Streams.{is_given_to_streams}
 use Rattle.qc_state.specs.StreamFrames.{acked_steps, fired_steps, lost_steps, sealed_steps}
@@ -70,9 +70,10 @@ use Rattle.qc_streams.specs.Waits as streams
 use Rattle.qc_datagrams.specs.Steps as datagrams
 use Rattle.qc_state.specs.Datagrams.{sealed_datagrams, shrunk_by, tells_datagram, told_by_all}
 use Rattle.qc_state.specs.Timers.{timers_sealed, timers_acking, timers_discarded, timers_keeping, timers_stopped, timers_closing, timers_accepted, timers_holding, timers_paced, timers_held, timers_released, timers_issued, timers_outlived, timers_armed, clock_set}
+use Rattle.qc_state.specs.Tokens.{asked_tokens}
 use Rattle.qc_state.specs.Types.{Types}
 use Rattle.qc_state.specs.View.{View, At, at}
-use Rattle.qc_state.specs.Waiting.{ping_asked, done_asked, waiting_without, close_begun, packet_told, packet_came, packets_acked, packets_lost, fired_in, crypto_written, space_left, hello_again, holds_back, ack_released, bundle_next}
+use Rattle.qc_state.specs.Waiting.{ping_asked, done_asked, waiting_without, close_begun, packet_told, packet_came, packets_acked, packets_lost, fired_in, crypto_written, space_left, hello_again, holds_back, ack_released, bundle_next, tokens_asked}
 
 -- whether a frame closes the connection (RFC 9000, section 19.19)
 abbrev pub is_close : FrameValue → Bool
@@ -187,7 +188,7 @@ pub data Move (t : Types) : Type 0 where
   Arm : (at : Option ℕ) → Move t  -- the loss timer is set, or stopped
   Pace : Move t  -- a datagram that the pacer held back may go
   Release : Move t  -- an ACK that was held back is owed
-  Begin : (id : SpaceId) → (opens : Bool) → Move t  -- a packet is begun; where it opens a datagram, this spends a probe that is due in its space; streams that may owe something are looked at
+  Begin : (id : SpaceId) → (opens : Bool) → Move t  -- a packet is begun, and its own bits are drawn; where it opens a datagram, this spends a probe that is due in its space; streams that may owe something are looked at
   Skip : Move t  -- the next number of 1-RTT packets is skipped
   Come : (id : SpaceId) → (offset : ℕ) → (bytes : List ℕ) → Move t  -- bytes of a CRYPTO stream came
   Read : (id : SpaceId) → (count : ℕ) → (session : t.S) → Move t  -- the session was given so many of them
@@ -323,7 +324,7 @@ module _ {t : Types} where
       bundle_next (packet_told s.waiting (is_space (number_space form) s.keys.highest)) fs (next_bundle time (estimate s.paths.current.kept.rtt) (peer_delay s.setup.peer))
   waiting_move (Forget id) s = space_left s.waiting id
   waiting_move (Renew time cid token keys) s = hello_again s.waiting
-  waiting_move (Accept time id n e g v) s = packet_came s.waiting id (arrived n (came_in s.numbers id)) (arrival_of time n e g) g.mark
+  waiting_move (Accept time id n e g v) s = tokens_asked (asked_tokens id v s.issuer) (packet_came s.waiting id (arrived n (came_in s.numbers id)) (arrival_of time n e g) g.mark)
   waiting_move (Write bytes keys session) s = crypto_written s.waiting s.keys.highest bytes
   waiting_move Confirm s = done_asked s.waiting
   waiting_move (Ack id n r) s = packets_lost (packets_acked s.waiting id r.acked) id r.lost
@@ -337,8 +338,9 @@ module _ {t : Types} where
   setup_move (Expect token) s = token_expected s.setup token
   setup_move (Renew time cid token keys) s = retry_taken s.setup cid token
   setup_move (Learn parameters) s = parameters_known s.setup parameters
+  setup_move (Take id fs) s = tokens_drawn fs s.setup
   setup_move Skip s = word_drawn s.setup
-  setup_move (Seal time form n size fs) s = packet_drawn s.setup form
+  setup_move (Begin id opens) s = packet_drawn s.setup (form_in s.keys id)
   setup_move _ s = s.setup
 
   -- the steps of the datagrams where loss recovery keeps this of the path in use from then on
@@ -405,6 +407,7 @@ module _ {t : Types} where
     waiting = waiting_move x s;
     setup = setup_move x s;
     lower = lower_move x s;
+    issuer = s.issuer;
   }
 
   -- the loss timer is set to the time that recovery gives with the view, at a time and with word on whether datagrams may be begun

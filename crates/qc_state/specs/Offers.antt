@@ -53,10 +53,19 @@ streams_offer s = is_some (next_control SPARE_ROOM s) || turn_waits (next_turn s
 abbrev pub ids_offer : ConnectionIds → Bool
 ids_offer s = is_some (next_told s) || is_some (next_retired s)
 
+-- a NEW_TOKEN waits
+abbrev pub tokens_wait : SpaceWaiting → Bool
+tokens_wait w = not (w.tokens == 0)
+
+-- one waits in a space: they go in 1-RTT packets (RFC 9000, section 12.4)
+abbrev pub tokens_want : SpaceId → SpaceWaiting → Bool
+tokens_want «Data» w = tokens_wait w
+tokens_want _ w = false
+
 -- there is a frame that elicits an acknowledgement for a packet with room, DATAGRAMs aside: one that waits here, or in a packet of 1-RTT one of
--- the streams or of the connection ids
+-- the streams or of the connection ids, or a NEW_TOKEN
 abbrev pub offers_here : (in_data : Bool) → SpaceWaiting → StreamsState → ConnectionIds → Bool
-offers_here in_data w streams ids = wants_here w || (in_data && (streams_offer streams || ids_offer ids))
+offers_here in_data w streams ids = wants_here w || (in_data && (streams_offer streams || (ids_offer ids || tokens_wait w)))
 
 module _ {t : Types} where
   -- so it is in a space
@@ -64,9 +73,9 @@ module _ {t : Types} where
   offers_in s id = offers_here (is_space id «Data») (space_of s.waiting.spaces id) s.lower.streams s.lower.ids
 
   -- a frame waits in the space that elicits an acknowledgement, DATAGRAMs aside: one of its own, or one of the streams or of the connection
-  -- ids, whose frames go in 1-RTT packets
+  -- ids, or a NEW_TOKEN, all of which go in 1-RTT packets
   unfoldable pub wants_sending : View t → SpaceId → Bool
-  wants_sending s id = wants_here (space_of s.waiting.spaces id) || (streams_want id s.lower.streams || ids_want id s.lower.ids)
+  wants_sending s id = wants_here (space_of s.waiting.spaces id) || (streams_want id s.lower.streams || (ids_want id s.lower.ids || tokens_want id (space_of s.waiting.spaces id)))
 
   -- how many bytes a datagram to the path in use may have
   abbrev pub path_size : View t → ℕ

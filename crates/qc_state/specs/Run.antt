@@ -145,6 +145,7 @@ module _ {t : Types} where
     pub waiting : s'.waiting ≡ (step_after m s i choice).waiting
     pub setup : s'.setup ≡ (step_after m s i choice).setup
     pub lower : s'.lower ≡ (step_after m s i choice).lower
+    pub issuer : s'.issuer ≡ (step_after m s i choice).issuer
     pub forward : s.timers.greatest ≤ time_of i
     pub deeds : x.did ≡ (called m s i choice).did
     pub allowed : IsAllowed m i choice (began s (time_of i))

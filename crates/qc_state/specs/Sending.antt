@@ -48,17 +48,16 @@ use Rattle.qc_state.specs.Life.{is_established, is_open, is_closed, is_drained}
 use Rattle.qc_state.specs.Acks.{AckPart, IsLongAck, is_ack, is_ack_owed, may_acknowledge}
 use Rattle.qc_state.specs.Allowed.{WaitAll}
 use Rattle.qc_state.specs.Batches.{batch_begun, next_segment, is_last_in, is_in_order, takes_another, is_done, wanted_by, is_closed_up, IsBehind, segment_of, batch_opened, widens, batch_grown}
-use Rattle.qc_state.specs.Draws.{bit}
 use Rattle.qc_state.specs.Flight.{counts_in_flight}
 use Rattle.qc_state.specs.Moves.{Begin, Skip, Seal, Take, Forget, Finish, Hold, Say, Spend, move_to, armed_with, state_move, Ask, Probe}
 use Rattle.qc_state.specs.Numbers.{next_number, coming_number, is_skipped, acked_number}
 use Rattle.qc_state.specs.Offers.{datagram_fits, datagram_waits, offers_in, path_size, waits_in, wants_sending}
 use Rattle.qc_state.specs.Paths.{is_blocked_behind, held_size, least_on}
 use Rattle.qc_state.specs.Spaces.{is_space, space_of}
-use Rattle.qc_state.specs.Setup.{behind_spin, takes_grease}
+use Rattle.qc_state.specs.Setup.{takes_grease}
 use Rattle.qc_state.specs.Stopping.{key_limit_error, killed_after, stopped_after, violation_at}
 use Rattle.qc_state.specs.Updating.{tried_after, tried_view}
-use Rattle.qc_state.specs.Types.{Types, Meaning}
+use Rattle.qc_state.specs.Types.{TokenMaker, Types, Meaning}
 use Rattle.qc_state.specs.View.{View, At, at}
 
 -- INTERNAL_ERROR (RFC 9000, section 20.1), without the type of a frame
@@ -286,11 +285,11 @@ module _ {t : Types} where
 
   -- the spin bit of the next 1-RTT packet: the path's where this connection spins, else it is drawn (RFC 9000, section 17.4)
   unfoldable pub spin_now : View t → Bool
-  spin_now s = if s.setup.fixed.spins then s.paths.spin else bit s.setup.random
+  spin_now s = if s.setup.fixed.spins then s.paths.spin else s.setup.drawn.spin
 
-  -- whether the fixed bit of the next packet, of this form, is flipped, which is drawn where the peer takes such packets (RFC 9287)
-  unfoldable pub flips_now : View t → Form → Bool
-  flips_now s form = takes_grease s.setup.peer && bit (behind_spin s.setup form)
+  -- whether the fixed bit of the next packet is flipped, which is drawn where the peer takes such packets (RFC 9287)
+  unfoldable pub flips_now : View t → Bool
+  flips_now s = takes_grease s.setup.peer && s.setup.drawn.flip
 
   -- the header of the next packet, of this form (RFC 9000, sections 17.2.2 to 17.2.4 and 17.3.1); a 1-RTT packet has the
   -- key phase of its keys' epoch
@@ -317,7 +316,7 @@ module _ {t : Types} where
     largest_acked = acked_number s.numbers (number_space form);
     sealed = usage.sealed;
     limit = usage.limit;
-    flip = flips_now s form;
+    flip = flips_now s;
   }
 
   -- how much room for frames a packet of this form has where so many bytes are left in its datagram: behind its header, and before
@@ -376,7 +375,7 @@ module _ {t : Types} where
 
   -- the bytes of the next packet, of this form, with these frames
   unfoldable pub packet_bytes : Meaning t → View t → Form → List FrameValue → List ℕ
-  packet_bytes m s form fs = sealed_with m (header_key s.keys form) (packet_key s.keys form) (flips_now s form) (header_in s form) (next_number s.numbers (number_space form)) (frames_spelling fs)
+  packet_bytes m s form fs = sealed_with m (header_key s.keys form) (packet_key s.keys form) (flips_now s) (header_in s form) (next_number s.numbers (number_space form)) (frames_spelling fs)
 
   -- an ACK, if there is something to acknowledge and it leaves 25 bytes, and the close with the reason that fits behind it
   pub data Closes (time : ℕ) (s : View t) (id : SpaceId) (room : ℕ) (fs : List FrameValue) : Type 0 where
@@ -395,18 +394,18 @@ module _ {t : Types} where
   holds_owed s id fs = list_any elicits fs || (is_ack_owed (space_of s.waiting.spaces id).acks && list_any is_ack fs)
 
   -- the frames of a packet of this form with so much room at a time, and PADDING behind them: in a transmit that began with a close owed,
-  -- the close alone; else each waits as its turn comes
-  pub data Carries (closing : Bool) (time : ℕ) (s : View t) (form : Form) (room : ℕ) (fs : List FrameValue) : Type 0 where
-    a_close : closing ≡ true → (gs : List FrameValue) (n : ℕ) → Closes time s (number_space form) room gs → fs ≡ gs ++ replicate n frames.Padding → Carries closing time s form room fs
-    what_waits : closing ≡ false → (gs : List FrameValue) (n : ℕ) → WaitAll time s (number_space form) gs → fs ≡ gs ++ replicate n frames.Padding → Carries closing time s form room fs
+  -- the close alone; else each waits as its turn comes, where `maker` makes the tokens
+  pub data Carries (maker : TokenMaker t) (closing : Bool) (time : ℕ) (s : View t) (form : Form) (room : ℕ) (fs : List FrameValue) : Type 0 where
+    a_close : closing ≡ true → (gs : List FrameValue) (n : ℕ) → Closes time s (number_space form) room gs → fs ≡ gs ++ replicate n frames.Padding → Carries maker closing time s form room fs
+    what_waits : closing ≡ false → (gs : List FrameValue) (n : ℕ) → WaitAll maker time s (number_space form) gs → fs ≡ gs ++ replicate n frames.Padding → Carries maker closing time s form room fs
 
   -- the number that would be next in a space is skipped, where it is to be
   unfoldable pub skipped_after : SpaceId → At t → At t
   skipped_after id a = if is_skipped a.state.numbers id then move_to Skip a else a
 
-  -- a packet is begun, which has the space's next number from now on; a datagram begins with it, or it joins one
+  -- a packet is begun, which has the space's next number from now on, and its own bits; a datagram begins with it, or it joins one
   unfoldable pub begun_after : SpaceId → (opens : Bool) → At t → At t
-  begun_after id opens a = skipped_after id (move_to (Begin id opens) a)
+  begun_after id opens a = move_to (Begin id opens) (skipped_after id a)
 
   -- the view once it is begun
   unfoldable pub begun_view : View t → SpaceId → (opens : Bool) → View t
@@ -537,7 +536,7 @@ module _ {t : Types} where
   pub record MayFollow (m : Meaning t) (time : ℕ) (s : View t) (b : Batch) (p : Sent) : Type 0 where
     pub begins : MayBegin m time s b p.form p.opens
     pub sized : (begun_batch s (number_space p.form) p.opens b).capacity ≤ 65527
-    pub carries : Carries b.closing time (begun_view s (number_space p.form) p.opens) p.form
+    pub carries : Carries m.token b.closing time (begun_view s (number_space p.form) p.opens) p.form
         (room_in (begun_batch s (number_space p.form) p.opens b) (begun_view s (number_space p.form) p.opens) p.form) p.frames
     pub holds : b.closing ≡ false → (holds_owed (begun_view s (number_space p.form) p.opens) (number_space p.form) p.frames ≡ true)
         ⊎ ((b.made ≡ 0) × LacksAckRoom time (begun_view s (number_space p.form) p.opens) (number_space p.form)

@@ -4,17 +4,20 @@ use Rattle.rand_core.specs.Stream.{Stream}
 use Rattle.qc_base.specs.Time.{times}
 use Rattle.qc_base.specs.declared.side.Side.{Side}
 use Rattle.qc_base.specs.declared.side.Side.TheVariants.{Client, Server}
+use Rattle.qc_frame.specs.Frame.{FrameValue}
 use Rattle.qc_params.specs.declared.params.TransportParameters.{TransportParameters}
 use Rattle.qc_state.specs.declared.form.Form.{Form}
+use Rattle.qc_state.specs.declared.setup.Drawn.{Drawn}
 use Rattle.qc_state.specs.declared.setup.Fixed.{Fixed}
 use Rattle.qc_state.specs.declared.setup.Setup.{Setup}
-use Rattle.qc_state.specs.Draws.{behind, behind_bit}
+use Rattle.qc_state.specs.Draws.{behind, behind_bit, bit}
 use Rattle.qc_state.specs.Forms.{is_one_rtt}
 use Rattle.qc_state.specs.Timers.{least}
+use Rattle.qc_state.specs.Tokens.{behind_tokens}
 
 -- the same with the source of random words as its stream
 unfoldable pub ideal_setup : {R : Type 0} → (R → Stream) → Setup R → Setup Stream
-ideal_setup stream s = record { fixed = s.fixed; peer = s.peer; token = s.token; initial_token = s.initial_token; retry_cid = s.retry_cid; random = stream s.random }
+ideal_setup stream s = record { fixed = s.fixed; peer = s.peer; token = s.token; initial_token = s.initial_token; retry_cid = s.retry_cid; drawn = s.drawn; random = stream s.random }
 
 -- a limit on idle time in nanoseconds, of one in milliseconds: none, and 0, are no limit (RFC 9000, section 10.1)
 abbrev pub idle_limit_of : Option ℕ → Option ℕ
@@ -51,9 +54,17 @@ word_drawn s = record s { random = behind s.random }
 unfoldable pub behind_spin : Setup Stream → Form → Stream
 behind_spin s form = if is_one_rtt form && not s.fixed.spins then behind_bit s.random else s.random
 
--- what is drawn for a packet of this form was drawn: the spin bit, and whether the fixed bit is flipped, where the peer takes that
+-- what is drawn for a packet of this form: the spin bit, and whether the fixed bit is flipped, where the peer takes that
+unfoldable pub drawn_for : Setup Stream → Form → Drawn
+drawn_for s form = record { spin = (is_one_rtt form && not s.fixed.spins) && bit s.random; flip = takes_grease s.peer && bit (behind_spin s form) }
+
+-- so much was drawn, before any frame of the packet is taken
 unfoldable pub packet_drawn : Setup Stream → Form → Setup Stream
-packet_drawn s form = record s { random = if takes_grease s.peer then behind_bit (behind_spin s form) else behind_spin s form }
+packet_drawn s form = record s { drawn = drawn_for s form; random = if takes_grease s.peer then behind_bit (behind_spin s form) else behind_spin s form }
+
+-- what the tokens of these frames are made with was drawn: a nonce for each NEW_TOKEN
+abbrev pub tokens_drawn : List FrameValue → Setup Stream → Setup Stream
+tokens_drawn fs s = record s { random = behind_tokens fs s.random }
 
 -- an end of this side, with this token of a first packet, waits for its first packet: a server does
 abbrev pub awaits_first : Side → Option (List ℕ) → Bool

@@ -1,6 +1,8 @@
 -- In which order this end takes frames that wait for a packet, and how many: these are the words of the calls that take, and the
 -- contract of a transmit has none of them.
 use Rattle.std.specs.Prelude.{◌≡◌, ℕ, ◌+◌, ◌-◌, ◌≤◌, Bool, true, false, ◌&&◌, not, ◌⊎◌, if◌then◌else◌, List, [], ◌∷◌, ◌++◌, length, Option, is_some}
+use Rattle.rand_core.specs.Stream.{Stream}
+use Rattle.std.specs.declared.net.ip_addr.IpAddr.{IpAddr}
 use Rattle.qc_frame.specs.Frame.{FrameValue}
 use Rattle.qc_frame.specs.FrameFits.{Fits}
 use Rattle.qc_frame.specs.FrameSpelling.{frames_spelling, spelling}
@@ -19,6 +21,7 @@ use Rattle.qc_state.specs.Datagrams.{AllOldest, sealed_datagrams}
 use Rattle.qc_state.specs.Ids.{AllNext, sealed_cids}
 use Rattle.qc_state.specs.Lower.{frames_sealed}
 use Rattle.qc_state.specs.StreamFrames.{control_of, sealed_steps}
+use Rattle.qc_state.specs.Tokens.{AllIssued, behind_tokens}
 use Rattle.qc_state.specs.Waiting.{StartsWith, crypto_waits, without, without_all}
 use Rattle.qc_streams.specs.Steps.{AllMay}
 use Rattle.qc_streams.specs.Waits.{after}
@@ -54,14 +57,16 @@ abbrev pub AreOfStreams : (in_data : Bool) → List FrameValue → Type 0
 AreOfStreams in_data [] = Unit {0}
 AreOfStreams in_data (f ∷ fs) = (in_data ≡ true) × (is_streams_frame f ≡ true) × Fits f × AreOfStreams in_data fs
 
--- whether a frame is one that a layer below offers: one of the streams, a DATAGRAM, or one about connection ids
+-- whether a frame is one that a layer below offers, or is made as it is taken: one of the streams, a DATAGRAM, one about connection ids, or a
+-- NEW_TOKEN
 abbrev pub is_offered_frame : FrameValue → Bool
 is_offered_frame (frames.Datagram body) = true
+is_offered_frame (frames.NewToken token) = true
 is_offered_frame (frames.NewConnectionId new) = true
 is_offered_frame (frames.RetireConnectionId sequence) = true
 is_offered_frame f = is_streams_frame f
 
--- frames that the layers below offer, which go in 1-RTT packets alone, and whose numbers have room in their fields
+-- such frames, which go in 1-RTT packets alone, and whose numbers have room in their fields
 abbrev pub AreOffered : (in_data : Bool) → List FrameValue → Type 0
 AreOffered in_data [] = Unit {0}
 AreOffered in_data (f ∷ fs) = (in_data ≡ true) × (is_offered_frame f ≡ true) × Fits f × AreOffered in_data fs
@@ -133,16 +138,36 @@ pub record TakesIds (room : ℕ) (d d' : ConnectionIds) (fs gs : List FrameValue
   pub list : gs ≡ fs ++ own
   pub fits : length (frames_spelling own) + left ≡ room
 
--- Frames that the layers below offer were taken, and put behind other frames: those of the streams each as one of their steps that may be,
--- each DATAGRAM with the oldest datagram that was to be sent then, and each about connection ids as the next one that waited then; of so
--- much room they leave this much
-pub record TakesOffered {S : Type 0} (in_data : Bool) (room : ℕ) (l l' : Lower S) (fs gs : List FrameValue) (left : ℕ) : Type 0 where
+-- NEW_TOKEN frames alone, whose lengths have room in their fields
+abbrev pub AreTokens : List FrameValue → Type 0
+AreTokens [] = Unit {0}
+AreTokens (frames.NewToken token ∷ fs) = Fits (frames.NewToken token) × AreTokens fs
+AreTokens (_ ∷ fs) = ⊥
+
+-- NEW_TOKEN frames were taken, and put behind other frames, each with a token for this address that is made with the next nonce of the random
+-- words; of so much room they leave this much
+pub record TakesTokens (issuer : Option (IpAddr → ℕ → List ℕ)) (ip : IpAddr) (room : ℕ) (w w' : SpaceWaiting) (words words' : Stream) (fs gs : List FrameValue) (left : ℕ) : Type 0 where
+  pub own : List FrameValue
+  pub are : AreTokens own
+  pub issued : AllIssued issuer ip own w words
+  pub rest : w' ≡ without_all w own
+  pub drawn : words' ≡ behind_tokens own words
+  pub list : gs ≡ fs ++ own
+  pub fits : length (frames_spelling own) + left ≡ room
+
+-- Frames that the layers below offer were taken, and NEW_TOKENs, and put behind other frames: those of the streams each as one of their steps
+-- that may be, each DATAGRAM with the oldest datagram that was to be sent then, each about connection ids as the next one that waited then, and
+-- each NEW_TOKEN with a token that is made then; of so much room they leave this much
+pub record TakesOffered {S : Type 0} (issuer : Option (IpAddr → ℕ → List ℕ)) (ip : IpAddr) (in_data : Bool) (room : ℕ) (w w' : SpaceWaiting) (words words' : Stream) (l l' : Lower S) (fs gs : List FrameValue) (left : ℕ) : Type 0 where
   pub own : List FrameValue
   pub are : AreOffered in_data own
   pub may : AllMay (sealed_steps own) l.streams
   pub oldest : AllOldest own l.datagrams
   pub next : AllNext own l.ids
+  pub issued : AllIssued issuer ip own w words
   pub leads : l' ≡ frames_sealed own l
+  pub rest : w' ≡ without_all w own
+  pub drawn : words' ≡ behind_tokens own words
   pub list : gs ≡ fs ++ own
   pub fits : length (frames_spelling own) + left ≡ room
 

@@ -1,5 +1,6 @@
 -- The types that a connection stands on, and what the calls on them mean.
 use Rattle.std.specs.Prelude.{ℕ, Bool, List, Option, Result}
+use Rattle.std.specs.declared.net.ip_addr.IpAddr.{IpAddr}
 use Rattle.qc_base.specs.declared.side.Side.{Side}
 use Rattle.qc_base.specs.declared.transport_error.TransportError.{TransportError}
 use Rattle.qc_base.specs.declared.mask.HeaderMask.{Ghosts as HeaderMaskGhosts}
@@ -10,7 +11,8 @@ use Rattle.qc_crypto.specs.declared.session.Session.{Ghosts as SessionGhosts}
 use Rattle.qc_path.specs.declared.controller.Controller.{Ghosts as ControllerGhosts}
 use Rattle.qc_params.specs.declared.params.TransportParameters.{TransportParameters}
 
--- the session, its header keys, its packet keys, its handshake data, its peer's identity, and the congestion controller
+-- the session, its header keys, its packet keys, its handshake data, its peer's identity, the congestion controller, the key of tokens and the
+-- source of the time
 pub record Types : Type 1 where
   pub S : Type 0
   pub H : Type 0
@@ -18,8 +20,14 @@ pub record Types : Type 1 where
   pub D : Type 0
   pub I : Type 0
   pub C : Type 0
+  pub K : Type 0
+  pub T : Type 0
 
--- what their calls answer and leave, as functions of values
+-- what makes tokens: the token that a key makes at a time for an IP address, with a nonce
+abbrev pub TokenMaker : Types → Type 0
+TokenMaker t = t.K → t.T → IpAddr → (nonce : ℕ) → List ℕ
+
+-- what their calls answer and leave, as functions of values, and what makes tokens
 pub record Meaning (t : Types) : Type 1 where
   pub mask : t.H → List ℕ → List ℕ
   pub seal : t.P → ℕ → List ℕ → List ℕ → List ℕ
@@ -39,10 +47,11 @@ pub record Meaning (t : Types) : Type 1 where
   pub after_next : t.S → t.S
   pub fits_retry : t.S → (first_cid header payload : List ℕ) → Bool
   pub control : ControllerGhosts t.C
+  pub token : TokenMaker t
 
 -- the meaning that the traits give
-abbrev pub meaning : {t : Types} → SessionGhosts t.S t.H t.P t.D t.I → HeaderMaskGhosts t.H → PacketKeyGhosts t.P → ControllerGhosts t.C → Meaning t
-meaning s h p c = record {
+abbrev pub meaning : {t : Types} → SessionGhosts t.S t.H t.P t.D t.I → HeaderMaskGhosts t.H → PacketKeyGhosts t.P → ControllerGhosts t.C → TokenMaker t → Meaning t
+meaning s h p c token = record {
   mask = h.mask_of;
   seal = p.seal;
   opening = p.opening;
@@ -61,4 +70,5 @@ meaning s h p c = record {
   after_next = s.after_next;
   fits_retry = s.fits_retry;
   control = c;
+  token = token;
 }

@@ -1,5 +1,5 @@
--- The view of a connection: eight groups of plain data.
-use Rattle.std.specs.Prelude.{List}
+-- The view of a connection: nine groups of plain data.
+use Rattle.std.specs.Prelude.{List, Option}
 use Rattle.rand_core.specs.Stream.{Stream}
 use Rattle.qc_state.specs.declared.numbers.Numbers.{Numbers}
 use Rattle.qc_state.specs.declared.keys.KeyGroup.{KeyGroup}
@@ -9,6 +9,7 @@ use Rattle.qc_state.specs.declared.timers.Timers.{Timers}
 use Rattle.qc_state.specs.declared.waiting.Waiting.{Waiting}
 use Rattle.qc_state.specs.declared.setup.Setup.{Setup}
 use Rattle.qc_state.specs.declared.lower.Lower.{Lower}
+use Rattle.qc_state.specs.declared.tokens.Issuer.{Issuer}
 use Rattle.qc_state.specs.declared.deeds.Did.{Did}
 use Rattle.qc_state.specs.Types.{Types}
 use Rattle.qc_state.specs.Setup.{ideal_setup}
@@ -23,6 +24,7 @@ pub record Held (t : Types) (R : Type 0) : Type 0 where
   pub waiting : Waiting
   pub setup : Setup R
   pub lower : Lower t.S
+  pub issuer : Option (Issuer t.K t.T)
 
 -- the view: the source of random words is known by its stream alone
 abbrev pub View : Types → Type 0
@@ -48,6 +50,7 @@ module _ {t : Types} {R : Type 0} where
     waiting = v.waiting;
     setup = ideal_setup stream v.setup;
     lower = v.lower;
+    issuer = v.issuer;
   }
 
   abbrev pub held : (R → Stream) → Held t R → List Did → At t

@@ -1,6 +1,6 @@
 -- The frames that wait to be sealed in the waiting group itself, and what becomes of them. Of each kind of frame a table says what it
 -- makes here: a frame that a layer below offers makes nothing.
-use Rattle.std.specs.Prelude.{◌≡◌, ℕ, ◌+◌, ◌-◌, ◌<◌, ◌≤◌, ◌^◌, nat_lt, Bool, true, false, ◌||◌, ◌&&◌, not, ◌==◌, if◌then◌else◌, List, [], ◌∷◌, ◌++◌, length, drop, Option, None, Some, option_map}
+use Rattle.std.specs.Prelude.{◌≡◌, ℕ, ◌+◌, ◌-◌, ◌<◌, ◌≤◌, ◌^◌, nat_lt, Bool, true, false, ◌||◌, ◌&&◌, not, ◌==◌, if◌then◌else◌, List, [], ◌∷◌, ◌++◌, length, drop, Option, None, Some, option_map, unwrap_or}
 use Rattle.std.specs.List.{list_any}
 use Rattle.qc_base.specs.declared.ecn.EcnCodepoint.{EcnCodepoint}
 use Rattle.qc_base.specs.declared.side.SpaceId.{SpaceId}
@@ -27,7 +27,7 @@ use Rattle.qc_state.specs.Spaces.{is_space, space_of, with_space}
 abbrev pub crypto_waits : SpaceWaiting → Bool
 crypto_waits w = has_bytes (waiting w.crypto)
 
--- a frame waits here that elicits an acknowledgement
+-- a frame waits here that elicits an acknowledgement, NEW_TOKENs aside
 abbrev pub wants_here : SpaceWaiting → Bool
 wants_here w = w.done || w.ping || crypto_waits w
 
@@ -39,7 +39,13 @@ ping_asked v id = record v { spaces = with_space v.spaces id (record (space_of v
 unfoldable pub done_asked : Waiting → Waiting
 done_asked v = record v { spaces = with_space v.spaces «Data» (record (space_of v.spaces «Data») { done = true }) }
 
--- a frame of a packet that is lost waits again, where it waits here: a HANDSHAKE_DONE, and the bytes of a CRYPTO frame
+-- so many NEW_TOKENs wait from now on in place of those that wait, where a number is given; they are frames of 1-RTT packets (RFC 9000, section
+-- 19.7)
+abbrev pub tokens_asked : Option ℕ → Waiting → Waiting
+tokens_asked count v = record v { spaces = with_space v.spaces «Data» (record (space_of v.spaces «Data») { tokens = unwrap_or count (space_of v.spaces «Data»).tokens }) }
+
+-- a frame of a packet that is lost waits again, where it waits here: a HANDSHAKE_DONE, the bytes of a CRYPTO frame, and a NEW_TOKEN, which is
+-- another token then
 abbrev pub again : SpaceWaiting → FrameValue → SpaceWaiting
 again w frames.HandshakeDone = record w { done = true }
 again w (frames.Crypto offset body) = record w { crypto = range_lost offset (offset + length body) w.crypto }
@@ -48,7 +54,7 @@ again w frames.Ping = w
 again w (frames.Ack ack) = w
 again w (frames.ResetStream id code size) = w
 again w (frames.StopSending id code) = w
-again w (frames.NewToken token) = w
+again w (frames.NewToken token) = record w { tokens = plus w.tokens 1 }
 again w (frames.Stream id offset fin body) = w
 again w (frames.MaxData limit) = w
 again w (frames.MaxStreamData id limit) = w
@@ -201,7 +207,7 @@ crypto_written v id bytes = record v { spaces = with_space v.spaces id (record (
 
 -- nothing waits in a space whose keys were dropped
 unfoldable pub nothing_left : SpaceWaiting → SpaceWaiting
-nothing_left w = record w { done = false; ping = false; crypto = discarded w.crypto; probes = 0 }
+nothing_left w = record w { done = false; ping = false; crypto = discarded w.crypto; tokens = 0; probes = 0 }
 
 -- the keys of the space were dropped
 unfoldable pub space_left : Waiting → SpaceId → Waiting
@@ -224,7 +230,7 @@ without w (frames.Crypto offset body) = record w { crypto = range_sealed offset 
 without w frames.Padding = w
 without w (frames.ResetStream id code size) = w
 without w (frames.StopSending id code) = w
-without w (frames.NewToken token) = w
+without w (frames.NewToken token) = record w { tokens = w.tokens - 1 }
 without w (frames.Stream id offset fin body) = w
 without w (frames.MaxData limit) = w
 without w (frames.MaxStreamData id limit) = w

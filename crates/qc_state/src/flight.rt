@@ -66,6 +66,9 @@ fn keep(kept: &mut FrameList, alloc: Global, frame: &OwnedFrame) -> Result<(), A
             additional: Vec::new(alloc),
             ecn: None,
         })),
+        FrameOf::NewToken { .. } => kept.push(FrameOf::NewToken {
+            token: Vec::new(alloc),
+        }),
         FrameOf::ResetStream { .. }
         | FrameOf::StopSending { .. }
         | FrameOf::MaxData(_)
@@ -75,7 +78,6 @@ fn keep(kept: &mut FrameList, alloc: Global, frame: &OwnedFrame) -> Result<(), A
         | FrameOf::RetireConnectionId { .. } => keep_numbers(kept, frame),
         FrameOf::Padding
         | FrameOf::Ping
-        | FrameOf::NewToken { .. }
         | FrameOf::Stream { .. }
         | FrameOf::DataBlocked { .. }
         | FrameOf::StreamDataBlocked { .. }

@@ -1,4 +1,4 @@
-//! The state of a connection: eight groups of plain data with their calls, the types of its inputs, deeds and trace, and
+//! The state of a connection: nine groups of plain data with their calls, the types of its inputs, deeds and trace, and
 //! in specs/ all definitions that the crates above cite: the view, moves with one table a group, sending, steps, runs
 //! and laws.
 #![tactic(auto)]
@@ -32,6 +32,7 @@ pub mod streams;
 pub mod suite;
 mod taking;
 pub mod timers;
+pub mod tokens;
 pub mod trace;
 pub mod transmit;
 pub mod unblocking;
@@ -56,6 +57,7 @@ pub use setup::{Drawn, Fixed, Setup, negotiate_max_idle_timeout};
 pub use spaces::Spaces;
 pub use suite::{Means, Suite};
 pub use timers::Timers;
+pub use tokens::Issuer;
 pub use trace::{Answer, Refusal, Step, Trace};
 pub use transmit::{Batch, DATAGRAM_SIZE, JOINING_SIZE, SPARE_ROOM, Transmit};
 pub use waiting::{SpaceWaiting, Waiting};

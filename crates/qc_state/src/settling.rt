@@ -19,12 +19,15 @@ fn again(space: &mut SpaceWaiting, frame: &OwnedFrame) -> Result<(), AllocError>
             Ok(())
         }
         FrameOf::Crypto { offset, body } => space.crypto.lose(*offset, body.len()),
+        FrameOf::NewToken { .. } => {
+            space.tokens = space.tokens.saturating_add(1);
+            Ok(())
+        }
         FrameOf::Padding
         | FrameOf::Ping
         | FrameOf::Ack(_)
         | FrameOf::ResetStream { .. }
         | FrameOf::StopSending { .. }
-        | FrameOf::NewToken { .. }
         | FrameOf::Stream { .. }
         | FrameOf::MaxData(_)
         | FrameOf::MaxStreamData { .. }

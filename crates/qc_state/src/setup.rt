@@ -2,7 +2,7 @@
 
 ghost use Rattle.std.specs.Prelude.{◌≡◌, ◌&&◌, not, if◌then◌else◌, Some};
 ghost use Rattle.qc_state.specs.Draws.{bit, behind_bit};
-ghost use Rattle.qc_state.specs.Setup.{ideal_setup, idle_limit_of, idle_limit_now, peer_delay, peer_exponent, takes_grease, behind_spin, packet_drawn, parameters_known, retry_taken, token_expected, is_first_awaited, awaits_first};
+ghost use Rattle.qc_state.specs.Setup.{ideal_setup, idle_limit_of, idle_limit_now, peer_delay, peer_exponent, takes_grease, behind_spin, drawn_for, packet_drawn, parameters_known, retry_taken, token_expected, is_first_awaited, awaits_first};
 ghost use Rattle.qc_state.specs.Forms.{is_one_rtt};
 ghost use Rattle.qc_state.specs.Timers.{least};
 
@@ -60,16 +60,18 @@ pub struct Setup<R> {
     pub initial_token: Bytes,
     /// The source id of the Retry that a client took, if it took one (RFC 9000, 17.2.5).
     pub retry_cid: Option<ConnectionId>,
+    /// What was drawn for the packet that was begun last.
+    pub drawn: Drawn,
     /// The source of random words. Contracts know it by its stream alone.
     pub random: R,
 }
 
-/// What was drawn for a packet.
+/// What is drawn for a packet as it is begun.
 #[derive(Clone, Copy, Debug)]
 pub struct Drawn {
-    /// The spin bit of a 1-RTT packet (RFC 9000, 17.4).
+    /// The spin bit of a 1-RTT packet, where the connection doesn't spin (RFC 9000, 17.4).
     pub spin: bool,
-    /// Whether the packet's fixed bit is flipped (RFC 9287).
+    /// Whether the packet's fixed bit is flipped, where the peer takes such packets (RFC 9287).
     pub flip: bool,
 }
 
@@ -210,6 +212,13 @@ impl<R> Setup<R> {
         self.retry_cid = Some(cid);
     }
 
+    /// Whether the fixed bit of the packet that was begun last is flipped: it was drawn so, where the peer takes such packets (RFC 9287).
+    pub fn flips(&self) -> bool
+        ensures { result ≡ (takes_grease self.now.peer && self.now.drawn.flip) }
+    {
+        takes_grease(&self.peer) && self.drawn.flip
+    }
+
     /// Whether this end is a server whose first packet didn't come yet.
     pub fn is_first_awaited(&self) -> bool
         ensures { result ≡ is_first_awaited self.now }
@@ -218,17 +227,17 @@ impl<R> Setup<R> {
     }
 }
 
-#[tactic(auto, unfolding(crate::specs::Setup::ideal_setup, crate::specs::Setup::behind_spin, crate::specs::Setup::packet_drawn))]
+#[tactic(auto, unfolding(crate::specs::Setup::ideal_setup, crate::specs::Setup::behind_spin, crate::specs::Setup::drawn_for, crate::specs::Setup::packet_drawn))]
 impl<R: Rng> Setup<R> {
-    /// Draws the spin bit of a packet of this form: of a 1-RTT packet, where the connection doesn't spin; else it is `spin`.
-    fn draw_spin(&mut self, form: Form, spin: bool) -> bool
-        ensures value { result ≡ (if is_one_rtt form && not self.old.fixed.spins then bit (R.stream self.old.random) else spin) }
+    /// Draws the spin bit of a packet of this form: of a 1-RTT packet, where the connection doesn't spin.
+    fn draw_spin(&mut self, form: Form) -> bool
+        ensures value { result ≡ ((is_one_rtt form && not self.old.fixed.spins) && bit (R.stream self.old.random)) }
         ensures left { ideal_setup R.stream self.new ≡ record (ideal_setup R.stream self.old) { random = behind_spin (ideal_setup R.stream self.old) form } }
     {
         if form.is_one_rtt() && !self.fixed.spins {
             return draw_bit(&mut self.random);
         }
-        spin
+        false
     }
 
     /// Draws whether the fixed bit of a packet is flipped, where the peer takes such packets (RFC 9287).
@@ -242,15 +251,12 @@ impl<R: Rng> Setup<R> {
         false
     }
 
-    /// Draws what is drawn for a packet of this form, where `spin` is the spin bit of the path: the packet's own spin bit, and
-    /// whether its fixed bit is flipped.
-    pub fn draw_packet(&mut self, form: Form, spin: bool) -> Drawn
-        ensures spin { result.spin ≡ (if is_one_rtt form && not self.old.fixed.spins then bit (R.stream self.old.random) else spin) }
-        ensures flip { result.flip ≡ (takes_grease self.old.peer && bit (behind_spin (ideal_setup R.stream self.old) form)) }
-        ensures left { ideal_setup R.stream self.new ≡ packet_drawn (ideal_setup R.stream self.old) form }
+    /// Draws what is drawn for a packet of this form, and keeps it: its spin bit, and whether its fixed bit is flipped.
+    pub fn draw_packet(&mut self, form: Form)
+        ensures { ideal_setup R.stream self.new ≡ packet_drawn (ideal_setup R.stream self.old) form }
     {
-        let spin = self.draw_spin(form, spin);
+        let spin = self.draw_spin(form);
         let flip = self.draw_flip();
-        Drawn { spin, flip }
+        self.drawn = Drawn { spin, flip };
     }
 }

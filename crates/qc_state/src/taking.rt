@@ -4,14 +4,15 @@ ghost use Rattle.std.specs.Prelude.{◌≡◌, ◌+◌, ◌-◌, ◌<◌, ◌≤
 ghost use Rattle.qc_frame.specs.AckRanges.{ArePackets};
 ghost use Rattle.qc_frame.specs.Frame.{ack_map};
 ghost use Rattle.qc_frame.specs.FrameSpelling.{frames_spelling, spelling};
-ghost use Rattle.qc_state.specs.Acks.{AckPart, IsLongAck, SaysAck, is_ack_first, is_ack_last, is_ack_owed, may_acknowledge, told_count, told_counts};
+ghost use Rattle.qc_state.specs.Acks.{AckPart, IsLongAck, IsShortAck, SaysAck, is_ack_first, is_ack_last, is_ack_owed, may_acknowledge, told_count, told_counts};
 ghost use Rattle.qc_frame.specs.declared.frames.FrameOf.TheVariants as frames;
 ghost use Rattle.qc_state.specs.Taking.{TakenPart, TakesAck, TakesCrypto, TakesOffered, marks_part};
 ghost use Rattle.qc_state.specs.Datagrams.{AllOldest};
 ghost use Rattle.qc_state.specs.Ids.{AllNext};
 ghost use Rattle.qc_state.specs.Lower.{frames_sealed};
-ghost use Rattle.qc_state.specs.Offers.{ids_offer, offers_here, streams_offer};
+ghost use Rattle.qc_state.specs.Offers.{ids_offer, offers_here, streams_offer, tokens_wait};
 ghost use Rattle.qc_state.specs.StreamFrames.{sealed_steps};
+ghost use Rattle.qc_state.specs.Tokens.{AllIssued, behind_tokens, made_by, token_with};
 ghost use Rattle.qc_state.specs.Waiting.{crypto_waits, without_all};
 ghost use Rattle.qc_streams.specs.Steps.{AllMay};
 
@@ -19,14 +20,19 @@ use crate::datagrams::{first_size, take_datagrams};
 use crate::id_frames::take_ids;
 use crate::lower::Lower;
 use crate::stream_frames::{take_controls, take_parts};
+use crate::tokens::{Issuer, take_tokens};
 use crate::transmit::SPARE_ROOM;
 use crate::waiting::{CRYPTO_HEAD, SpaceWaiting};
 use bytes::Bytes;
 use qc_base::{Instant, varint_size};
+use qc_crypto::HandshakeTokenKey;
 use qc_datagrams::Datagrams;
 use qc_frame::{Ack, EcnCounts, FrameList, FrameOf, OwnedAck, put_frame};
 use qc_path::PendingAcks;
+use qc_token::TimeSource;
+use rand_core::Rng;
 use std::alloc::{AllocError, Global};
+use std::net::IpAddr;
 
 /// Whether there is something to acknowledge, and each number is one of a packet.
 #[tactic(auto, unfolding(crate::specs::Acks::may_acknowledge), using(crate::proofs::AckLemmas::packets_by))]
@@ -225,31 +231,40 @@ fn take_crypto(
 }
 
 /// Takes the frames that the layers below offer, in a 1-RTT packet, as many as fit: first those of streams without bytes, then those about
-/// connection ids, then datagrams, then the bytes of streams. Answers how much of the room they leave. Want of memory is the only refusal.
-pub(crate) fn take_offered<S>(
+/// connection ids, then datagrams, then NEW_TOKENs, for which tokens for this address are made, then the bytes of streams. Answers how much of
+/// the room they leave. Want of memory is the only refusal.
+pub(crate) fn take_offered<S, K: HandshakeTokenKey, T: TimeSource, R: Rng>(
+    space: &mut SpaceWaiting,
     lower: &mut Lower<S>,
+    issuer: &Option<Issuer<K, T>>,
+    ip: IpAddr,
+    random: &mut R,
     alloc: Global,
     in_data: bool,
     room: usize,
     frames: &mut FrameList,
 ) -> Result<usize, AllocError>
-    ensures takes { IfOk result (λ left. TakesOffered in_data room lower.old lower.new frames.old frames.new left) }
-    ensures full { IfOk result (λ left. in_data ≡ true → SPARE_ROOM ≤ left → (streams_offer lower.new.streams || ids_offer lower.new.ids) ≡ false) }
+    ensures takes { IfOk result (λ left. TakesOffered (made_by (token_with K.Aead.sealed K.derived T.time_of) issuer.now) ip in_data room space.old space.new (R.stream random.old) (R.stream random.new) lower.old lower.new frames.old frames.new left) }
+    ensures full { IfOk result (λ left. in_data ≡ true → SPARE_ROOM ≤ left → (streams_offer lower.new.streams || (ids_offer lower.new.ids || tokens_wait space.new)) ≡ false) }
 {
     if !in_data {
         return Ok(room);
     }
     let more = take_controls(&mut lower.streams, room, frames)?;
     let rest = take_ids(&mut lower.ids, more, frames)?;
-    let left = take_datagrams(&mut lower.datagrams, alloc, rest, frames)?;
+    let least = take_datagrams(&mut lower.datagrams, alloc, rest, frames)?;
+    let left = take_tokens(space, issuer, ip, random, alloc, least, frames)?;
     take_parts(&mut lower.streams, alloc, left, frames)
 }
 
-/// Takes frames that wait at a time for a packet with so much room, in a packet of 1-RTT also those that the layers below offer; an ACK may
-/// be bundled with them from `bundled` on. Want of memory is the only refusal.
-pub(crate) fn take<S>(
+/// Takes frames that wait at a time for a packet with so much room, in a packet of 1-RTT also those that the layers below offer, and
+/// NEW_TOKENs, for which tokens for this address are made; an ACK may be bundled with them from `bundled` on. Want of memory is the only refusal.
+pub(crate) fn take<S, K: HandshakeTokenKey, T: TimeSource, R: Rng>(
     space: &mut SpaceWaiting,
     lower: &mut Lower<S>,
+    issuer: &Option<Issuer<K, T>>,
+    ip: IpAddr,
+    random: &mut R,
     alloc: Global,
     now: Instant,
     bundled: Option<Instant>,
@@ -261,6 +276,8 @@ pub(crate) fn take<S>(
     ensures may { IfOk result (λ frames. AllMay (sealed_steps frames) lower.old.streams) }
     ensures oldest { IfOk result (λ frames. AllOldest frames lower.old.datagrams) }
     ensures next { IfOk result (λ frames. AllNext frames lower.old.ids) }
+    ensures issued { IfOk result (λ frames. AllIssued (made_by (token_with K.Aead.sealed K.derived T.time_of) issuer.now) ip frames space.old (R.stream random.old)) }
+    ensures drawn { IfOk result (λ frames. R.stream random.new ≡ behind_tokens frames (R.stream random.old)) }
     ensures leads { IfOk result (λ frames. lower.new ≡ frames_sealed frames lower.old) }
     ensures full { IfOk result (λ frames. SPARE_ROOM ≤ room - length (frames_spelling frames) → offers_here in_data space.new lower.new.streams lower.new.ids ≡ false) }
 {
@@ -273,19 +290,30 @@ pub(crate) fn take<S>(
     let most = front_room(&lower.datagrams, owed, in_data, room);
     let len = take_ack(space, alloc, now, first, most, &mut frames)?;
     let rest = take_crypto(space, alloc, room.saturating_sub(len), &mut frames)?;
-    let left = take_offered(lower, alloc, in_data, rest, &mut frames)?;
+    let left = take_offered(
+        space,
+        lower,
+        issuer,
+        ip,
+        random,
+        alloc,
+        in_data,
+        rest,
+        &mut frames,
+    )?;
     take_ack(space, alloc, now, last, left, &mut frames)?;
     Ok(frames)
 }
 
-/// Whether the ACK of a space at a time has so much room, where there is one. Want of memory is the only refusal.
+/// Whether the ACK of a space at a time has so much room; true where there is none. Want of memory is the only refusal.
 pub(crate) fn ack_fits(
     space: &SpaceWaiting,
     alloc: Global,
     now: Instant,
     room: usize,
 ) -> Result<bool, AllocError>
-    ensures { IfOk result (λ fits. fits ≡ false → IsLongAck now space.now room) }
+    ensures long { IfOk result (λ fits. fits ≡ false → IsLongAck now space.now room) }
+    ensures short { IfOk result (λ fits. fits ≡ true → may_acknowledge space.now.acks ≡ true → IsShortAck now space.now room) }
 {
     let due = may_acknowledge(&space.acks);
     if due {

@@ -5,7 +5,7 @@ ghost use Rattle.std.specs.List.{list_any};
 ghost use Rattle.qc_base.specs.Time.{plus};
 ghost use Rattle.qc_frame.specs.Frame.{owned};
 ghost use Rattle.qc_frame.specs.FrameSpelling.{frames_spelling};
-ghost use Rattle.qc_state.specs.Acks.{AckPart, IsLongAck, is_ack, is_ack_owed, may_acknowledge};
+ghost use Rattle.qc_state.specs.Acks.{AckPart, IsLongAck, IsShortAck, is_ack, is_ack_owed, may_acknowledge};
 ghost use Rattle.qc_base.specs.declared.side.SpaceId.TheVariants.{«Data»};
 ghost use Rattle.qc_path.specs.Acks.{sets_delay};
 ghost use Rattle.qc_state.specs.Spaces.{is_space, space_of, with_space};
@@ -15,7 +15,8 @@ ghost use Rattle.qc_state.specs.Lower.{frames_sealed};
 ghost use Rattle.qc_state.specs.Offers.{offers_here};
 ghost use Rattle.qc_state.specs.StreamFrames.{sealed_steps};
 ghost use Rattle.qc_state.specs.Taking.{TakenPart};
-ghost use Rattle.qc_state.specs.Waiting.{ack_released, bundle_next, bytes_again, came_in, close_begun, counts_begun, crypto_written, done_asked, fired_in, frames_again, hello_again, holds_back, mark_counted, marks_begun, nothing_left, packet_came, packet_told, packets_acked, packets_lost, ping_asked, probe_spent, probes_added, space_left, waiting_without, wants_here};
+ghost use Rattle.qc_state.specs.Tokens.{AllIssued, behind_tokens, made_by, token_with};
+ghost use Rattle.qc_state.specs.Waiting.{ack_released, bundle_next, bytes_again, came_in, close_begun, counts_begun, crypto_written, done_asked, fired_in, frames_again, hello_again, holds_back, mark_counted, marks_begun, nothing_left, packet_came, packet_told, packets_acked, packets_lost, ping_asked, probe_spent, probes_added, space_left, tokens_asked, waiting_without, wants_here};
 ghost use Rattle.qc_streams.specs.Steps.{AllMay};
 
 use crate::crypto_queue::CryptoQueue;
@@ -23,15 +24,20 @@ use crate::lower::Lower;
 use crate::settling::{acknowledge, all_again, lose};
 use crate::spaces::Spaces;
 use crate::taking::{ack_alone, ack_fits, is_ack_owed, take};
+use crate::tokens::Issuer;
 use crate::transmit::SPARE_ROOM;
 use bytes::Bytes;
 use qc_base::{EcnCodepoint, Instant, SpaceId};
+use qc_crypto::HandshakeTokenKey;
 use qc_flight::PacketList;
 use qc_frame::{EcnCounts, FrameList, FrameOf, OwnedFrame};
 use qc_path::{Arrival, Dedup, PendingAcks};
 use qc_recovery::{Fired, Settled};
 use qc_space::with_mark;
+use qc_token::TimeSource;
+use rand_core::Rng;
 use std::alloc::{AllocError, Global};
+use std::net::IpAddr;
 
 /// The greatest size of a CRYPTO frame's type, offset and length together, in bytes.
 pub const CRYPTO_HEAD: usize = 17;
@@ -45,6 +51,8 @@ pub struct SpaceWaiting {
     pub ping: bool,
     /// The bytes that the session wrote, and which of them wait (RFC 9000, 19.6).
     pub crypto: CryptoQueue,
+    /// How many NEW_TOKENs wait: tokens for the path's address, which are made as they are taken (RFC 9000, 19.7).
+    pub tokens: u64,
     /// The numbers of packets that came and are to be acknowledged, and whether an ACK is owed (RFC 9000, 13.2).
     pub acks: PendingAcks,
     /// How many packets of the space were accepted with each mark of ECN; none before one of the connection was accepted with a
@@ -65,7 +73,7 @@ pub struct Waiting {
     pub bundled: Option<Instant>,
 }
 
-/// Whether a frame waits here that elicits an acknowledgement.
+/// Whether a frame waits here that elicits an acknowledgement, NEW_TOKENs aside.
 fn wants_here(space: &SpaceWaiting) -> bool
     ensures { result ≡ wants_here space.now }
 {
@@ -164,6 +172,7 @@ fn leave(space: &mut SpaceWaiting)
     space.done = false;
     space.ping = false;
     space.crypto.discard();
+    space.tokens = 0;
     space.probes = 0;
 }
 
@@ -179,7 +188,7 @@ fn lose_all(space: &mut SpaceWaiting) -> Result<(), AllocError>
 
 #[tactic(auto, unfolding(crate::specs::Waiting::packets_lost, crate::specs::Waiting::packets_acked, crate::specs::Waiting::probes_added, crate::specs::Waiting::probe_spent, crate::specs::Waiting::frames_again, crate::specs::Waiting::packet_came, crate::specs::Waiting::holds_back, crate::specs::Waiting::ack_released, crate::specs::Waiting::bundle_next, crate::specs::Waiting::crypto_written, crate::specs::Waiting::space_left, crate::specs::Waiting::close_begun, crate::specs::Waiting::packet_told, crate::specs::Waiting::ping_asked, crate::specs::Waiting::done_asked, crate::specs::Waiting::waiting_without, crate::specs::Waiting::hello_again))]
 impl Waiting {
-    /// Whether a frame waits here in the space that elicits an acknowledgement.
+    /// Whether a frame waits here in the space that elicits an acknowledgement, NEW_TOKENs aside.
     pub fn wants(&self, space: SpaceId) -> bool
         ensures { result ≡ wants_here (space_of self.now.spaces space) }
     {
@@ -406,11 +415,24 @@ impl Waiting {
         self.spaces.application.done = true;
     }
 
+    /// So many NEW_TOKENs wait from now on in place of those that wait, where a number is given.
+    pub fn ask_tokens(&mut self, count: Option<u64>)
+        ensures { self.new ≡ tokens_asked count self.old }
+    {
+        match count {
+            None => {}
+            Some(count) => self.spaces.application.tokens = count,
+        }
+    }
+
     /// Takes frames that wait in the space at a time, for a packet with so much room for them; those that the layers below offer go in
-    /// the space of 1-RTT packets. Want of memory is the only refusal.
-    pub fn take<S>(
+    /// the space of 1-RTT packets, and so do NEW_TOKENs, for which tokens for this address are made. Want of memory is the only refusal.
+    pub fn take<S, K: HandshakeTokenKey, T: TimeSource, R: Rng>(
         &mut self,
         lower: &mut Lower<S>,
+        issuer: &Option<Issuer<K, T>>,
+        ip: IpAddr,
+        random: &mut R,
         alloc: Global,
         now: Instant,
         space: SpaceId,
@@ -421,16 +443,32 @@ impl Waiting {
         ensures may { IfOk result (λ frames. AllMay (sealed_steps frames) lower.old.streams) }
         ensures oldest { IfOk result (λ frames. AllOldest frames lower.old.datagrams) }
         ensures next { IfOk result (λ frames. AllNext frames lower.old.ids) }
+        ensures issued { IfOk result (λ frames. AllIssued (made_by (token_with K.Aead.sealed K.derived T.time_of) issuer.now) ip frames (space_of self.old.spaces space) (R.stream random.old)) }
+        ensures drawn { IfOk result (λ frames. R.stream random.new ≡ behind_tokens frames (R.stream random.old)) }
         ensures leads { IfOk result (λ frames. lower.new ≡ frames_sealed frames lower.old) }
         ensures full { IfOk result (λ frames. SPARE_ROOM ≤ room - length (frames_spelling frames) → offers_here (is_space space «Data») (space_of self.new.spaces space) lower.new.streams lower.new.ids ≡ false) }
     {
         let bundled = self.bundled;
         let spaces = &mut self.spaces;
         match space {
-            SpaceId::Initial => take(&mut spaces.initial, lower, alloc, now, bundled, false, room),
+            SpaceId::Initial => take(
+                &mut spaces.initial,
+                lower,
+                issuer,
+                ip,
+                random,
+                alloc,
+                now,
+                bundled,
+                false,
+                room,
+            ),
             SpaceId::Handshake => take(
                 &mut spaces.handshake,
                 lower,
+                issuer,
+                ip,
+                random,
                 alloc,
                 now,
                 bundled,
@@ -440,6 +478,9 @@ impl Waiting {
             SpaceId::Data => take(
                 &mut spaces.application,
                 lower,
+                issuer,
+                ip,
+                random,
                 alloc,
                 now,
                 bundled,
@@ -449,7 +490,7 @@ impl Waiting {
         }
     }
 
-    /// Whether the ACK of the space at a time has so much room, where there is one. Want of memory is the only refusal.
+    /// Whether the ACK of the space at a time has so much room; true where there is none. Want of memory is the only refusal.
     pub fn ack_fits(
         &self,
         alloc: Global,
@@ -457,7 +498,8 @@ impl Waiting {
         space: SpaceId,
         room: usize,
     ) -> Result<bool, AllocError>
-        ensures { IfOk result (λ fits. fits ≡ false → IsLongAck now (space_of self.now.spaces space) room) }
+        ensures long { IfOk result (λ fits. fits ≡ false → IsLongAck now (space_of self.now.spaces space) room) }
+        ensures short { IfOk result (λ fits. fits ≡ true → may_acknowledge (space_of self.now.spaces space).acks ≡ true → IsShortAck now (space_of self.now.spaces space) room) }
     {
         ack_fits(self.spaces.get(space), alloc, now, room)
     }

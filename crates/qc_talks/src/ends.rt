@@ -1,10 +1,12 @@
 //! One end: a connection that is driven input by input, and the text of all its steps.
 
 use crate::posts::Posts;
-use crate::setups::{Toy, client_address, client_to, server, server_address};
+use crate::setups::{
+    Toy, client_address, client_storing, client_to, server, server_address, server_sending,
+};
 use crate::tally::Tally;
 use qc_base::{ConnectionId, EcnCodepoint, Instant, VarInt};
-use qc_config::NoneTokenStore;
+use qc_config::{NoneTokenStore, TokenMemoryCache, TokenStore};
 use qc_conn::text::trace_text;
 use qc_conn::{Connection, drive};
 use qc_recovery::TransportConfig;
@@ -83,27 +85,40 @@ impl End {
         transport: TransportConfig,
     ) -> Result<End, AllocError> {
         let connection = client_to(alloc, ConnectionId::new(&[first; 8]), transport)?;
-        Ok(End {
-            connection,
-            address: client_address(),
-            text: String::new(alloc),
-            quiet: false,
-            tally: Tally::none(),
-            posts: Posts::none(),
-        })
+        Ok(End::of(alloc, connection, client_address()))
+    }
+
+    /// The client whose first packets go to the id of eight bytes 03, with a token out of this store where there is one.
+    pub(crate) fn client_storing(
+        alloc: Global,
+        store: &mut TokenMemoryCache,
+    ) -> Result<End, AllocError> {
+        let connection = client_storing(alloc, store)?;
+        Ok(End::of(alloc, connection, client_address()))
     }
 
     /// The server that takes so many bytes of a stream, and of all streams together; as many as usual where no number is said.
     pub(crate) fn server(alloc: Global, window: Option<u32>) -> Result<End, AllocError> {
         let connection = server(alloc, window)?;
-        Ok(End {
+        Ok(End::of(alloc, connection, server_address()))
+    }
+
+    /// The server that sends so many tokens, at 42 seconds since the epoch.
+    pub(crate) fn server_sending(alloc: Global, sent: u32) -> Result<End, AllocError> {
+        let connection = server_sending(alloc, sent)?;
+        Ok(End::of(alloc, connection, server_address()))
+    }
+
+    /// The end with this connection, whose datagrams come from this address.
+    fn of(alloc: Global, connection: Box<Connection<Toy>>, address: SocketAddr) -> End {
+        End {
             connection,
-            address: server_address(),
+            address,
             text: String::new(alloc),
             quiet: false,
             tally: Tally::none(),
             posts: Posts::none(),
-        })
+        }
     }
 
     /// Puts the text of a step behind that of the others, unless this end is quiet, and counts what it told of streams and datagrams.
@@ -121,8 +136,18 @@ impl End {
 
     /// One input: gives the datagram that it sent, if it sent one.
     fn step(&mut self, alloc: Global, input: &Input) -> Result<Option<Vec<u8>>, Fail> {
+        self.step_storing(alloc, input, &mut NoneTokenStore)
+    }
+
+    /// The same with this store of tokens.
+    fn step_storing<S: TokenStore>(
+        &mut self,
+        alloc: Global,
+        input: &Input,
+        store: &mut S,
+    ) -> Result<Option<Vec<u8>>, Fail> {
         let inputs = slice::from_ref(input);
-        match drive(alloc, &mut self.connection, inputs, &mut NoneTokenStore) {
+        match drive(alloc, &mut self.connection, inputs, store) {
             Ok(trace) => {
                 self.note(alloc, input, &trace)?;
                 Ok(last_datagram(alloc, &trace)?)
@@ -156,6 +181,25 @@ impl End {
             bytes: Body::from_slice(alloc, datagram)?,
         };
         let _none = self.step(alloc, &input)?;
+        Ok(())
+    }
+
+    /// A datagram of the other end comes at this time, and the tokens in it go into this store.
+    pub(crate) fn takes_storing(
+        &mut self,
+        alloc: Global,
+        nanos: u64,
+        remote: SocketAddr,
+        datagram: &[u8],
+        store: &mut TokenMemoryCache,
+    ) -> Result<(), Fail> {
+        let input = Input::Datagram {
+            now: Instant::from_nanos(nanos),
+            remote,
+            ecn: None,
+            bytes: Body::from_slice(alloc, datagram)?,
+        };
+        let _none = self.step_storing(alloc, &input, store)?;
         Ok(())
     }
 

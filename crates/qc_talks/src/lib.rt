@@ -37,4 +37,6 @@ mod stream_tests;
 #[cfg(test)]
 mod tally;
 #[cfg(test)]
+mod token_tests;
+#[cfg(test)]
 mod update_tests;

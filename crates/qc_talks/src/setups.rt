@@ -3,15 +3,15 @@
 
 ghost use Rattle.std.specs.Prelude.{◌≡◌, IfOk};
 
-use qc_base::{ConnectionId, Instant, Side, VarInt};
-use qc_config::{NoneTokenStore, announced};
+use qc_base::{ConnectionId, Instant, Side, SystemTime, VarInt};
+use qc_config::{FixedTime, NoneTokenStore, TokenMemoryCache, TokenStore, announced};
 use qc_conn::{ClientSetup, Connection, ServerSetup};
 use qc_crypto::{ClientConfig, ServerConfig, Session};
 use qc_params::TransportParameters;
 use qc_path::NewRenoConfig;
 use qc_recovery::TransportConfig;
 use qc_state::Suite;
-use qc_toy::{ToyClient, ToyServer, ToySession, ToySettings, ZeroRandom};
+use qc_toy::{ToyClient, ToyServer, ToySession, ToySettings, ToyTokenKey, ZeroRandom};
 use std::alloc::{AllocError, Global};
 use std::default::Default;
 use std::net::{IpAddr, Ipv4Addr, SocketAddr};
@@ -25,6 +25,10 @@ impl Suite for Toy {
     type Control = NewRenoConfig;
 
     type Random = ZeroRandom;
+
+    type TokenKey = ToyTokenKey;
+
+    type Time = FixedTime;
 }
 
 /// The greatest UDP payload that an end takes, in bytes.
@@ -145,31 +149,68 @@ fn server_setup(alloc: Global, window: Option<u32>) -> Result<ServerSetup<Toy>, 
         version: 1,
         allow_mtud: false,
         remote_cid: ConnectionId::new(&[2; 8]),
+        token_key: ToyTokenKey::new([0; 16]),
+        time: FixedTime(SystemTime::from_nanos(0)),
+        sent: 0,
         migration: true,
         preferred: false,
         validated: false,
     })
 }
 
-/// A client with this transport made at time 0 whose first packets go to this id, on the heap: a function that owns a whole connection is slow
-/// to check.
+/// A client with this transport made at time 0 whose first packets go to this id, with a token out of this store where there is
+/// one, on the heap: a function that owns a whole connection is slow to check.
+fn client_of<S: TokenStore>(
+    alloc: Global,
+    first_cid: ConnectionId,
+    transport: TransportConfig,
+    store: &mut S,
+) -> Result<Box<Connection<Toy>>, AllocError> {
+    let setup = client_setup(alloc, first_cid, transport)?;
+    let start = Instant::from_nanos(0);
+    let client = Connection::new_client(alloc, setup, store, start)?;
+    Ok(Box::new(alloc, client)?)
+}
+
+/// The same without a token.
 pub(crate) fn client_to(
     alloc: Global,
     first_cid: ConnectionId,
     transport: TransportConfig,
 ) -> Result<Box<Connection<Toy>>, AllocError> {
-    let setup = client_setup(alloc, first_cid, transport)?;
-    let start = Instant::from_nanos(0);
-    let client = Connection::new_client(alloc, setup, &mut NoneTokenStore, start)?;
-    Ok(Box::new(alloc, client)?)
+    client_of(alloc, first_cid, transport, &mut NoneTokenStore)
 }
 
-/// The server that takes so many bytes, made at time 0, on the heap too.
+/// The client with a token out of this store where there is one.
+pub(crate) fn client_storing(
+    alloc: Global,
+    store: &mut TokenMemoryCache,
+) -> Result<Box<Connection<Toy>>, AllocError> {
+    let first_cid = ConnectionId::new(&[3; 8]);
+    client_of(alloc, first_cid, TransportConfig::default(), store)
+}
+
+/// The server of this setup, made at time 0, on the heap too.
+fn server_of(alloc: Global, setup: ServerSetup<Toy>) -> Result<Box<Connection<Toy>>, AllocError>
+    requires fresh { ⟦<ToySession as Session>⟧.is_fresh setup.session }
+{
+    let server = Connection::new_server(alloc, setup, Instant::from_nanos(0))?;
+    Ok(Box::new(alloc, server)?)
+}
+
+/// The server that takes so many bytes.
 pub(crate) fn server(
     alloc: Global,
     window: Option<u32>,
 ) -> Result<Box<Connection<Toy>>, AllocError> {
     let setup = server_setup(alloc, window)?;
-    let server = Connection::new_server(alloc, setup, Instant::from_nanos(0))?;
-    Ok(Box::new(alloc, server)?)
+    server_of(alloc, setup)
+}
+
+/// The server that sends so many tokens, at 42 seconds since the epoch.
+pub(crate) fn server_sending(alloc: Global, sent: u32) -> Result<Box<Connection<Toy>>, AllocError> {
+    let mut setup = server_setup(alloc, None)?;
+    setup.sent = sent;
+    setup.time = FixedTime(SystemTime::from_nanos(42_000_000_000));
+    server_of(alloc, setup)
 }

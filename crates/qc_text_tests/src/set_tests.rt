@@ -9,7 +9,7 @@ use std::process::Abort;
 use std::test::Fail;
 
 /// For which values there is a set line, in the order of the lines.
-fn are_set(settings: &Settings) -> [bool; 18] {
+fn are_set(settings: &Settings) -> [bool; 20] {
     [
         settings.random.is_some(),
         settings.time.is_some(),
@@ -29,6 +29,8 @@ fn are_set(settings: &Settings) -> [bool; 18] {
         settings.idle.is_some(),
         settings.mtud.is_some(),
         settings.gso.is_some(),
+        settings.sent.is_some(),
+        settings.clock.is_some(),
     ]
 }
 
@@ -52,6 +54,8 @@ const EACH_LINE: &[(&str, &str)] = &[
     ("server", "set idle 0"),
     ("server", "set mtud 0"),
     ("server", "set gso 0"),
+    ("server", "set sent 0"),
+    ("server", "set clock 0"),
 ];
 
 /// Whether a script of this side with this line has a value for the set line at this place alone, and no input.
@@ -80,7 +84,7 @@ fn each_set_line_stands_alone(rt: HostRuntime) -> Result<(), Fail> {
 
 /// Every set line that a server has, and one input.
 const EVERY_LINE: &str =
-    "set side server\nset random 000102030405060708090a0b0c0d0e0f101112131415161718191a1b1c1d1e1f\nset time 5\nset local 0a0b\nset remote -\nset first 0102030405060708\nset addr c0000201/443\nset secret 00ff010203\nset limit_initial 2\nset limit_handshake 30\nset limit_data 10000\nset limit_failures 18446744073709551615\nset idle 30000\nset mtud 0\nset gso 1\nping 6\n";
+    "set side server\nset random 000102030405060708090a0b0c0d0e0f101112131415161718191a1b1c1d1e1f\nset time 5\nset local 0a0b\nset remote -\nset first 0102030405060708\nset addr c0000201/443\nset secret 00ff010203\nset limit_initial 2\nset limit_handshake 30\nset limit_data 10000\nset limit_failures 18446744073709551615\nset idle 30000\nset mtud 0\nset gso 1\nset sent 4294967295\nset clock 42\nping 6\n";
 
 /// The values of those lines.
 fn check_every_line(rt: &impl Abort, settings: &Settings) {
@@ -105,6 +109,8 @@ fn check_every_line(rt: &impl Abort, settings: &Settings) {
     assert_eq!(rt; settings.idle, Some(VarInt::from_u32(30_000)));
     assert_eq!(rt; settings.mtud, Some(false));
     assert_eq!(rt; settings.gso, Some(true));
+    assert_eq!(rt; settings.sent, Some(u32::MAX));
+    assert_eq!(rt; settings.clock, Some(42));
 }
 
 #[test]
@@ -228,6 +234,8 @@ const SET_LINES: &[(&str, bool)] = &[
     ("set gso", true),
     ("set gso -", true),
     ("set gso true", true),
+    ("set sent 0", true),
+    ("set clock 0", true),
     ("set local 0A", true),
     ("set limit_initial 02", true),
     ("set limit_handshake 00", true),
@@ -303,6 +311,19 @@ const SERVER_LINES: &[(&str, bool)] = &[
     ("set validated -", true),
     ("set validated ", true),
     ("set validated", true),
+    ("set sent 0", false),
+    ("set sent 4294967295", false),
+    ("set sent 4294967296", true),
+    ("set sent 00", true),
+    ("set sent -", true),
+    ("set sent ", true),
+    ("set sent", true),
+    ("set clock 0", false),
+    ("set clock 18446744073709551615", false),
+    ("set clock 18446744073709551616", true),
+    ("set clock 01", true),
+    ("set clock ", true),
+    ("set clock", true),
 ];
 
 /// Whether a script of a server with this line is refused at that line.
@@ -315,6 +336,21 @@ fn is_bad_on_server(alloc: Global, line: &str) -> Result<bool, Fail> {
 fn set_lines_of_a_server_have_bounds(rt: HostRuntime) -> Result<(), Fail> {
     for (line, bad) in SERVER_LINES {
         assert_eq!(rt; is_bad_on_server(rt.alloc(), line)?, *bad, "{line:?}");
+    }
+    Ok(())
+}
+
+// The third line of each stands before its second one, or is the same.
+#[test]
+fn tokens_are_set_once_and_in_order(rt: HostRuntime) -> Result<(), Fail> {
+    for lines in [
+        "set sent 1\nset gso 1",
+        "set sent 1\nset sent 1",
+        "set clock 1\nset sent 1",
+        "set clock 1\nset clock 1",
+    ] {
+        let text = format!(in rt.alloc(); "set side server\n{lines}\nping 0\n")?;
+        assert_eq!(rt; bad_line(rt.alloc(), text.as_str())?, Some(3), "{lines:?}");
     }
     Ok(())
 }

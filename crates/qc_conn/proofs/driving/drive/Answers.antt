@@ -16,6 +16,7 @@ use Rattle.qc_laws.proofs.InitialLeft.{run_leaves}
 use Rattle.qc_laws.proofs.KeysFold.{run_folds_keys, run_keeps_epochs, run_last}
 use Rattle.qc_laws.proofs.KeysHold.{run_keys_hold}
 use Rattle.qc_laws.proofs.LengthsHold.{run_keeps_length}
+use Rattle.qc_laws.proofs.LimitsEnd.{run_limits, run_spares}
 use Rattle.qc_laws.proofs.MarksTold.{none_each_told, ran_each_told, run_each_told}
 use Rattle.qc_laws.proofs.Mismatches.{none_mismatches, ran_mismatches, run_mismatches}
 use Rattle.qc_laws.proofs.PathsHold.{path_run}
@@ -32,6 +33,7 @@ use Rattle.qc_laws.proofs.RetriesCome.{run_of_inputs}
 use Rattle.qc_laws.proofs.RetriesHold.{run_renews}
 use Rattle.qc_laws.proofs.SealRuns.{run_seals_answers}
 use Rattle.qc_laws.proofs.Steps.{ran_none}
+use Rattle.qc_laws.proofs.SpacesFit.{run_spaces_fit}
 use Rattle.qc_laws.proofs.StepsTell.{run_each_tells}
 use Rattle.qc_laws.proofs.StreamHolds.{run_gives}
 use Rattle.qc_laws.proofs.StreamsFold.{run_folds}
@@ -185,6 +187,12 @@ returns-clause-epochs g c = λ last. of_trace _ _ _ _ c.drive_all.result _ c.dri
 pub returns-clause-last : goal.returns-clause-last
 returns-clause-last g c = λ last. of_end _ _ _ _ c.drive_all.result _ c.drive_all.ensures.run (λ trace run. run_last _ 0 _ _ trace _ run last)
 
+pub returns-clause-spared : goal.returns-clause-spared
+returns-clause-spared g c spares = of_end _ _ _ _ c.drive_all.result _ c.drive_all.ensures.run (λ trace run. run_spares _ 0 _ _ trace _ run spares)
+
+pub returns-clause-limits : goal.returns-clause-limits
+returns-clause-limits g c spares = of_trace _ _ _ _ c.drive_all.result _ c.drive_all.ensures.run (λ trace run. run_limits _ 0 _ _ trace _ run spares)
+
 pub returns-clause-retry : goal.returns-clause-retry
 returns-clause-retry g c = of_trace _ _ _ _ c.drive_all.result _ c.drive_all.ensures.run (λ trace run. run_renews _ 0 _ _ trace _ run)
 
@@ -193,6 +201,27 @@ returns-clause-retries g c = of_trace _ _ _ _ c.drive_all.result _ c.drive_all.e
 
 pub returns-clause-space_keys : goal.returns-clause-space_keys
 returns-clause-space_keys g c named = of_end _ _ _ _ c.drive_all.result _ c.drive_all.ensures.run (λ trace run. run_space_keys _ 0 _ _ trace _ run named)
+
+pub returns-clause-own_keys : goal.returns-clause-own_keys
+returns-clause-own_keys g c fits =
+    of_end _ _ _ _ c.drive_all.result _ c.drive_all.ensures.run
+    (λ trace run. run_spaces_fit _ g.U.Session.Session
+    (record {
+      sound_read = g.met.U.Session.Session.sound_read;
+      sound_write = g.met.U.Session.Session.sound_write;
+      sound_next = g.met.U.Session.Session.sound_next;
+      changes_write = g.met.U.Session.Session.changes_write;
+      changes_read = g.met.U.Session.Session.changes_read;
+      changes_next = g.met.U.Session.Session.changes_next;
+      given_keys = g.met.U.Session.Session.given_keys;
+      handshake_read = g.met.U.Session.Session.handshake_read;
+      handshake_write = g.met.U.Session.Session.handshake_write;
+      handshake_next = g.met.U.Session.Session.handshake_next;
+      initial_read = g.met.U.Session.Session.initial_read;
+      initial_write = g.met.U.Session.Session.initial_write;
+      initial_next = g.met.U.Session.Session.initial_next;
+    })
+    0 _ _ trace _ run fits)
 
 pub returns-clause-mismatch : goal.returns-clause-mismatch
 returns-clause-mismatch g c = of_trace _ _ _ _ c.drive_all.result _ c.drive_all.ensures.run (λ trace run. run_mismatches _ 0 _ _ trace _ run)

@@ -1,12 +1,13 @@
 use Rattle.std.proofs.lemmas.Result.{on_ok_weaker}
 use Rattle.qc_state.specs.Timeouts.{timeout_after}
+use Rattle.qc_state.specs.Tokens.{token_with}
 use Rattle.qc_state.specs.Types.{meaning}
 use Rattle.qc_conn.proofs.Firsts.{still_alive, told_leads}
 use Rattle.qc_conn.proofs.steps.core_timeout.Goals as goal
 
 pub returns-clause-leads : goal.returns-clause-leads
 returns-clause-leads g c =
-    on_ok_weaker c.handle_timeout.result (λ is. told_leads (timeout_after (meaning g.U.Session.Session g.U.Session.HeaderKey.HeaderMask g.U.Session.PacketKey.PacketKey g.U.Control.Controller.Controller) c.args.now) _ _ _ c.args.now _ c.handle_timeout.new.did c.clock.ensures c.new-did.ensures is)
+    on_ok_weaker c.handle_timeout.result (λ is. told_leads (timeout_after (meaning g.U.Session.Session g.U.Session.HeaderKey.HeaderMask g.U.Session.PacketKey.PacketKey g.U.Control.Controller.Controller (token_with g.U.TokenKey.Aead.AeadKey.sealed g.U.TokenKey.HandshakeTokenKey.derived g.U.Time.TimeSource.time_of)) c.args.now) _ _ _ c.args.now _ c.handle_timeout.new.did c.clock.ensures c.new-did.ensures is)
     c.handle_timeout.ensures.leads
 
 pub returns-clause-idle : goal.returns-clause-idle

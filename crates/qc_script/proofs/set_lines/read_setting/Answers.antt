@@ -33,4 +33,4 @@ returns-in-Some-after_word-11 c = rw c.in-Some-after_word-11.ensures (c.limit_fa
 pub returns : goal.returns
 returns c = last_read c.args.text.now c.in_default.ensures c.in_default-after_word.ensures c.in_default-after_word-2.ensures c.in_default-after_word-3.ensures c.in_default-after_word-4.ensures c.in_default-after_word-5.ensures
     c.in_default-after_word-6.ensures c.in_default-after_word-7.ensures c.in_default-after_word-8.ensures c.in_default-after_word-9.ensures c.in_default-after_word-10.ensures
-    c.in_default-after_word-11.ensures c.in_default-after_word-12.ensures c.in_default-after_word-13.ensures c.in_default-after_word-14.ensures c.transport_line.result c.transport_line.ensures c.args.side
+    c.in_default-after_word-11.ensures c.in_default-after_word-12.ensures c.in_default-after_word-13.ensures c.in_default-after_word-14.ensures c.in_default-after_word-15.ensures c.in_default-after_word-16.ensures c.transport_line.result c.transport_line.ensures c.args.side

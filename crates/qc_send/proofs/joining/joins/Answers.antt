@@ -14,4 +14,4 @@ returns-then-not-owes g c = not_owing c.args.now (ideal g.U.Random.Rng.stream c.
 pub returns : goal.returns
 returns g c =
     joins_by c.args.now c.left-left.result (ideal g.U.Random.Rng.stream c.args.core.now) c.args.batch.now c.args.space _ _ c.in_ok-some.some c.is_later-later.ensures c.if-not-later.false c.owes_in-owes.ensures c.if-not-owes.false
-    c.left-left.ensures c.in_ok-some.ensures
+    c.left-left.ensures c.in_ok-some.ensures.lacks c.in_ok-some.ensures.has

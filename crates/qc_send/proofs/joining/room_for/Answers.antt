@@ -1,15 +1,8 @@
 use Rattle.qc_state.specs.View.{ideal}
-use Rattle.qc_send.proofs.Rooms.{near_handshake, near_initial, room_handshake, room_initial, room_short}
+use Rattle.qc_send.proofs.Rooms.{room_handshake, room_initial, room_short}
 use Rattle.qc_send.proofs.joining.room_for.Goals as goal
 
--- the number of such a packet can be spelled
-pub frame_room-initial-requires : goal.frame_room-initial-requires
-frame_room-initial-requires g c = near_initial (ideal g.U.Random.Rng.stream c.args.core.now) c.args.space c.in-Initial.is c.requires
-
-pub frame_room-handshake-requires : goal.frame_room-handshake-requires
-frame_room-handshake-requires g c = near_handshake (ideal g.U.Random.Rng.stream c.args.core.now) c.args.space c.in-Handshake.is c.requires
-
--- and its header is then as it is now, but for the number of a 1-RTT packet
+-- its header is then as it is now, but for the number of a 1-RTT packet
 pub returns-in-Initial : goal.returns-in-Initial
 returns-in-Initial g c = room_initial c.args.left _ (ideal g.U.Random.Rng.stream c.args.core.now) c.args.space c.in-Initial.is c.frame_room-initial.ensures.value
 

@@ -3,16 +3,11 @@ use Rattle.qc_frame.specs.declared.frames.FrameOf.TheVariants.{Ping}
 use Rattle.qc_state.specs.Sending.{sent_size}
 use Rattle.qc_state.specs.declared.form.Form.TheVariants.{OneRtt}
 use Rattle.qc_state.specs.View.{held, ideal}
-use Rattle.qc_send.proofs.Probings.{ping_fits, probe_begins, probe_fresh, probe_full, probe_held, probe_keyed, probe_leads, probe_low, probe_marked, probe_near, probe_near_begun, probe_seals_so, probe_spelled_so}
+use Rattle.qc_send.proofs.Probings.{ping_fits, probe_begins, probe_fresh, probe_full, probe_held, probe_keyed, probe_leads, probe_low, probe_marked, probe_near, probe_seals_so, probe_spelled_so}
 use Rattle.qc_send.proofs.Seals.{room_taken}
 use Rattle.qc_send.proofs.probing.seal_probe.Goals as goal
 
--- the number of the packet can be spelled, before the PING was taken and behind that
-pub frame_room-room-requires : goal.frame_room-room-requires
-frame_room-room-requires g c =
-    probe_near_begun _ c.args.now c.args.quiet c.args.batch.now (held g.U.Random.Rng.stream c.args.core.now c.args.did.now) (ideal g.U.Random.Rng.stream c.begin_packet.new.core) c.requires.fresh
-    (probe_begins _ c.args.now c.args.quiet c.args.batch.now (held g.U.Random.Rng.stream c.args.core.now c.args.did.now) _ _ _ _ refl c.hold.ensures c.do_ask.ensures c.in_ok-begin_packet.ensures)
-
+-- the number of the packet can be spelled
 pub seal-requires-clause-near : goal.seal-requires-clause-near
 seal-requires-clause-near g c =
     probe_near _ c.args.now c.args.quiet c.args.batch.now (held g.U.Random.Rng.stream c.args.core.now c.args.did.now) (ideal g.U.Random.Rng.stream c.begin_packet.new.core) _ c.requires.fresh

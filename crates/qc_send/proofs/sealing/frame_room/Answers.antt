@@ -1,7 +1,7 @@
 use Rattle.std.proofs.Common.{ap, ◌∙◌, ◌-◌, ℕ}
 use Rattle.qc_state.specs.Setup.{ideal_setup}
 use Rattle.qc_state.specs.View.{ideal}
-use Rattle.qc_send.proofs.Drawing.{room_is}
+use Rattle.qc_send.proofs.Headers.{room_is}
 use Rattle.qc_send.proofs.sealing.frame_room.Goals as goal
 
 -- what the header without a token leaves, less the token

@@ -1,7 +1,7 @@
 use Rattle.std.proofs.Common.{ap}
 use Rattle.std.specs.Option.{option_copied}
 use Rattle.qc_send.proofs.Built.{asked_fits, frames_fit, sample_fits}
-use Rattle.qc_send.proofs.Drawing.{header_key_there, packet_key_there, slot_there}
+use Rattle.qc_send.proofs.Headers.{header_key_there, packet_key_there, slot_there}
 use Rattle.qc_send.proofs.sealing.seal_with.Goals as goal
 
 -- the space has keys
@@ -14,7 +14,7 @@ unreachable-requires-in-None-packet_key g c =
 
 -- and so a slot
 pub unreachable-requires-in-None-slot : goal.unreachable-requires-in-None-slot
-unreachable-requires-in-None-slot g c = slot_there g.U.Random.Rng.stream c.args.core.now c.args.form c.args.flip c.slot.result c.requires.keyed c.slot.ensures c.in-None-slot.is
+unreachable-requires-in-None-slot g c = slot_there g.U.Random.Rng.stream c.args.core.now c.args.form c.slot.result c.requires.keyed c.slot.ensures c.in-None-slot.is
 
 -- its Length stays short
 pub seal_padded-requires-clause-sized : goal.seal_padded-requires-clause-sized

@@ -1,4 +1,4 @@
-use Rattle.qc_send.proofs.Drawing.{token_is}
+use Rattle.qc_send.proofs.Headers.{token_is}
 use Rattle.qc_send.proofs.sealing.token.Goals as goal
 
 -- the token that each Initial packet carries

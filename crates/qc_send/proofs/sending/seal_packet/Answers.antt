@@ -3,22 +3,14 @@ use Rattle.qc_state.specs.Forms.{number_space}
 use Rattle.qc_state.specs.Numbers.{next_number}
 use Rattle.qc_state.specs.Sending.{going}
 use Rattle.qc_state.specs.View.{held, ideal}
-use Rattle.qc_send.proofs.Begins.{begun_is, loud_fresh, loud_keyed, loud_low, loud_near, loud_near_begun, loud_wide}
+use Rattle.qc_send.proofs.Begins.{begun_is, loud_fresh, loud_keyed, loud_low, loud_near, loud_wide}
 use Rattle.qc_send.proofs.Fits.{now_fits}
 use Rattle.qc_send.proofs.Follows.{follows_taken}
 use Rattle.qc_send.proofs.Loops.{packet_made, packet_most, packet_total}
 use Rattle.qc_send.proofs.Seals.{least_small, left_small, room_taken, seals_taken}
 use Rattle.qc_send.proofs.sending.seal_packet.Goals as goal
 
--- the number is near enough to the greatest acknowledged one, before frames were taken
-pub frame_room-room-requires : goal.frame_room-room-requires
-frame_room-room-requires g c = loud_near_begun c.args.opens _ c.args.now c.args.batch.now (held g.U.Random.Rng.stream c.args.core.now c.args.did.now) (ideal g.U.Random.Rng.stream c.begin.new.core) c.args.form c.requires.begins c.in_ok-begin.ensures.leads
-
--- and behind that
-pub plan_packet-requires-clause-near : goal.plan_packet-requires-clause-near
-plan_packet-requires-clause-near g c =
-    loud_near c.args.opens _ c.args.now c.args.batch.now (held g.U.Random.Rng.stream c.args.core.now c.args.did.now) (ideal g.U.Random.Rng.stream c.begin.new.core) (ideal g.U.Random.Rng.stream c.take.new.core) c.args.form c.in_ok-frames.frames c.requires.begins c.in_ok-begin.ensures.leads c.in_ok-frames.ensures.leads
-
+-- the number is near enough to the greatest acknowledged one
 pub seal-requires-clause-near : goal.seal-requires-clause-near
 seal-requires-clause-near g c =
     loud_near c.args.opens _ c.args.now c.args.batch.now (held g.U.Random.Rng.stream c.args.core.now c.args.did.now) (ideal g.U.Random.Rng.stream c.begin.new.core) (ideal g.U.Random.Rng.stream c.take.new.core) c.args.form c.in_ok-frames.frames c.requires.begins c.in_ok-begin.ensures.leads c.in_ok-frames.ensures.leads

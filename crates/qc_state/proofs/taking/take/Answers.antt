@@ -1,18 +1,19 @@
 use Rattle.std.proofs.Common.{sym, subst, ◌∙◌, List}
 use Rattle.qc_streams.specs.Steps.{AllMay}
 use Rattle.qc_streams.specs.Waits.{Step}
-use Rattle.qc_state.proofs.Taken.{parts_leads, parts_next, parts_oldest, parts_steps, same_acks, same_numbers, without_parts, taken_full, taken_part}
+use Rattle.qc_state.proofs.Taken.{offered_numbers, parts_drawn, parts_issued, parts_leads, parts_next, parts_oldest, parts_steps, same_acks, same_numbers, without_parts, taken_full, taken_part}
 use Rattle.qc_state.proofs.taking.take.Goals as goal
 
 -- the marks leave the numbers to acknowledge
 pub take_ack-requires : goal.take_ack-requires
 take_ack-requires g c = same_acks c.args.space.now c.take_marks.new.space c.is_ack_first-first.result c.in_ok-count.ensures.rest c.is_ack_first-first.ensures.packets
 
--- so do the ACK in front and the CRYPTO bytes
+-- so do the ACK in front, the CRYPTO bytes and the frames behind them
 pub take_ack-requires-2 : goal.take_ack-requires-2
 take_ack-requires-2 g c =
-    same_numbers c.args.now _ _ c.in_ok-len.len c.in_ok-rest.rest c.is_ack_first-first.result c.is_ack_last-last.result c.args.space.now c.take_marks.new.space c.take_ack.new.space c.take_crypto.new.space _ _ _
-    c.in_ok-count.ensures.rest c.in_ok-len.ensures c.in_ok-rest.ensures.takes c.is_ack_last-last.ensures.packets
+    offered_numbers c.args.in_data _ c.in_ok-left.left c.take_crypto.new.space c.take_offered.new.space c.is_ack_last-last.result c.in_ok-left.ensures.takes
+    (same_numbers c.args.now _ _ c.in_ok-len.len c.in_ok-rest.rest c.is_ack_first-first.result c.is_ack_last-last.result c.args.space.now c.take_marks.new.space c.take_ack.new.space c.take_crypto.new.space _ _ _
+    c.in_ok-count.ensures.rest c.in_ok-len.ensures c.in_ok-rest.ensures.takes c.is_ack_last-last.ensures.packets)
 
 -- the parts, one after the other, leave what all frames leave
 pub returns-clause-rest : goal.returns-clause-rest
@@ -44,6 +45,20 @@ returns-clause-oldest g c =
 pub returns-clause-next : goal.returns-clause-next
 returns-clause-next g c =
     parts_next c.args.now _ _ c.in_ok-rest.rest c.in_ok-left.left c.in_ok-len.len c.in_ok-take_ack.field-0 c.is_ack_first-first.result c.is_ack_last-last.result c.args.in_data c.args.space.now _ _ _ _ _ _ _ _ _ _ c.args.lower.now _
+    c.new-frames.ensures c.in_ok-count.ensures.frames c.in_ok-len.ensures c.in_ok-rest.ensures.takes c.in_ok-left.ensures.takes c.in_ok-take_ack.ensures
+
+-- the tokens are made as their turn comes
+pub returns-clause-issued : goal.returns-clause-issued
+returns-clause-issued g c =
+    parts_issued _ c.args.ip (g.R.Rng.stream c.args.random.now) c.args.now _ _ c.in_ok-rest.rest c.in_ok-left.left c.in_ok-len.len c.in_ok-take_ack.field-0 c.is_ack_first-first.result c.is_ack_last-last.result c.args.in_data
+    c.args.space.now _ _ _ _ _ _ _ _ _ _ c.args.lower.now _
+    c.new-frames.ensures c.in_ok-count.ensures.frames c.in_ok-count.ensures.rest c.in_ok-len.ensures c.in_ok-rest.ensures.takes c.in_ok-left.ensures.takes c.in_ok-take_ack.ensures
+
+-- and no others
+pub returns-clause-drawn : goal.returns-clause-drawn
+returns-clause-drawn g c =
+    parts_drawn (g.R.Rng.stream c.args.random.now) _ c.args.now _ _ c.in_ok-rest.rest c.in_ok-left.left c.in_ok-len.len c.in_ok-take_ack.field-0 c.is_ack_first-first.result c.is_ack_last-last.result c.args.in_data
+    c.args.space.now _ _ _ _ _ _ _ _ _ _ c.args.lower.now _
     c.new-frames.ensures c.in_ok-count.ensures.frames c.in_ok-len.ensures c.in_ok-rest.ensures.takes c.in_ok-left.ensures.takes c.in_ok-take_ack.ensures
 
 -- which leads to what all frames lead to

@@ -2,7 +2,7 @@ use Rattle.qc_conn.proofs.NewEnds.{first_ends, first_last, first_told}
 use Rattle.qc_conn.proofs.Marks.{new_mark}
 use Rattle.qc_conn.proofs.NewLaws.{first_acks, first_kept, first_new, first_streams, first_timer, first_unposted, first_used}
 use Rattle.qc_conn.proofs.NewIds.{first_new_ids}
-use Rattle.qc_conn.proofs.NewKeys.{first_space_keys}
+use Rattle.qc_conn.proofs.NewKeys.{first_own_keys, first_space_keys, first_spared}
 use Rattle.std.proofs.Common.{refl}
 use Rattle.qc_conn.proofs.RunsPlain.{first_plain}
 use Rattle.qc_state.specs.View.{ideal}
@@ -63,3 +63,16 @@ returns-clause-new_ids g c = first_new_ids g.U.Random.Rng.stream _ _ _ _ c.args.
 -- its Initial keys are those of the destination id of its first packets
 pub returns-clause-space_keys : goal.returns-clause-space_keys
 returns-clause-space_keys g c = first_space_keys g.U.Random.Rng.stream _ _ _ _ c.args.setup.remote c.args.setup.first_cid _ _ _ c.args.now c.in_ok-core.core c.in_ok-core.ensures.made refl refl
+
+-- which are its session's own
+pub returns-clause-own_keys : goal.returns-clause-own_keys
+returns-clause-own_keys g c =
+    let session = c.args.setup.session in
+    let sound = g.met.U.Session.Session.fresh_sound session c.requires.fresh in
+    first_own_keys g.U.Random.Rng.stream _ g.U.Session.Session session _ _ c.args.setup.remote c.args.setup.first_cid _ _ _ c.args.now c.in_ok-core.core c.in_ok-core.ensures.made refl refl (g.met.U.Session.Session.fresh_changes session c.requires.fresh)
+    (g.met.U.Session.Session.hello_no_keys session c.requires.fresh c.requires.client) (g.met.U.Session.Session.changes_write session sound) (g.met.U.Session.Session.sound_write session sound)
+    (g.met.U.Session.Session.initial_write session c.args.setup.first_cid _ sound)
+
+-- and have sealed nothing
+pub returns-clause-spared : goal.returns-clause-spared
+returns-clause-spared g c = first_spared g.U.Random.Rng.stream _ _ _ _ c.args.setup.remote c.args.setup.first_cid _ _ _ c.args.now c.in_ok-core.core c.in_ok-core.ensures.made

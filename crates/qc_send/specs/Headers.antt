@@ -1,4 +1,4 @@
--- What is drawn for a packet, before it is sealed; and its header by what was drawn.
+-- The header of a packet, by its spin bit and its token.
 use Rattle.std.specs.Prelude.{ℕ, ◌+◌, ◌-◌, Bool, List, [], length}
 use Rattle.qc_base.specs.declared.side.LongType.TheVariants as long
 use Rattle.qc_base.specs.declared.side.SpaceId.TheVariants.{Initial, Handshake, «Data»}
@@ -6,14 +6,10 @@ use Rattle.qc_base.specs.PacketNumber.{number_of}
 use Rattle.qc_base.specs.Varint.{varint}
 use Rattle.qc_header.specs.declared.header.Header.{Header}
 use Rattle.qc_header.specs.declared.header.Header.TheVariants as header
-use Rattle.qc_packet.specs.declared.slot.Slot.{Slot}
 use Rattle.qc_state.specs.declared.form.Form.{Form}
 use Rattle.qc_state.specs.declared.form.Form.TheVariants as form
-use Rattle.qc_state.specs.declared.keys.KeyUse.{KeyUse}
 use Rattle.qc_state.specs.Keys.{phase_now}
 use Rattle.qc_state.specs.Numbers.{next_number, acked_number}
-use Rattle.qc_state.specs.Sending.{slot_with}
-use Rattle.qc_state.specs.Setup.{packet_drawn}
 use Rattle.qc_state.specs.Types.{Types}
 use Rattle.qc_state.specs.View.{View}
 
@@ -43,11 +39,3 @@ module _ {t : Types} where
   header_with s form.Early spin token =
       header.Long long.ZeroRtt s.paths.current.remote_cid s.setup.fixed.local_cid (number_of (next_number s.numbers Data) (acked_number s.numbers Data)) s.setup.fixed.version
   header_with s form.OneRtt spin token = header.Short spin (phase_now s.keys) s.paths.current.remote_cid (number_of (next_number s.numbers Data) (acked_number s.numbers Data))
-
-  -- what the builder is given of the next packet, of this form, where all was drawn for it: its fixed bit is flipped so
-  abbrev pub slot_drawn : View t → Form → (flip : Bool) → KeyUse → Slot
-  slot_drawn s form flip usage = record (slot_with s form usage) { flip = flip }
-
-  -- the view once all was drawn for a packet of this form
-  unfoldable pub drawn_for : Form → View t → View t
-  drawn_for form s = record s { setup = packet_drawn s.setup form }
