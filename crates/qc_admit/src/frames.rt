@@ -17,19 +17,18 @@ use crate::stops::stop_in;
 use bytes::Bytes;
 use qc_base::{Instant, SpaceId};
 use qc_core::Core;
-use qc_frame::{Ack, Frame, FrameOf, NewConnectionId, TypedFrame, put_frame};
+use qc_frame::{Ack, Frame, FrameOf, NewConnectionId, TypedFrame};
 use qc_state::{
-    ApplicationClose, Body, Coming, ConnectionClose, ConnectionError, Dids, Layer, Means, Suite,
+    ApplicationClose, Coming, ConnectionClose, ConnectionError, Dids, Given, Layer, Means, Suite,
 };
 use std::alloc::{AllocError, Global};
 
 /// The frame as it is written. Want of memory is the only refusal.
-fn spelled(alloc: Global, frame: &Frame<'_>) -> Result<Body, AllocError>
+fn spelled(alloc: Global, frame: &Frame<'_>) -> Result<Given, AllocError>
     ensures { IfOk result (λ body. body ≡ spelling (borrowed frame.now)) }
 {
-    let mut bytes = Vec::new(alloc);
-    put_frame(&mut bytes, frame)?;
-    Ok(Body::from_vec(bytes))
+    let frame = frame.to_owned(alloc)?;
+    Ok(Given::of_frame(frame))
 }
 
 /// The peer closed, for this reason, or speaks no version that this end does: the connection drains, if it was open. Want of memory is the

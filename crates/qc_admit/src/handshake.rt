@@ -24,7 +24,7 @@ use qc_core::Core;
 use qc_core::stopping::error_at;
 use qc_crypto::{Keys, Session, SessionError};
 use qc_params::TransportParameters;
-use qc_state::{Body, Coming, Dids, Layer, Means, OneRttKeys, SoundSession, SpaceKeys, Suite};
+use qc_state::{Coming, Dids, Given, Layer, Means, OneRttKeys, SoundSession, SpaceKeys, Suite};
 use std::alloc::{AllocError, Global};
 
 /// Whether bytes at an offset reach past those that were read.
@@ -195,7 +195,7 @@ fn do_read<U: Suite>(
         return Ok(None);
     }
     let answer = answer_of(&mut core.lower.session, bytes.as_slice())?;
-    did.push_gave(Layer::Session, Body::from_vec(bytes))?;
+    did.push_gave(Layer::Session, Given::of_bytes(bytes))?;
     Ok(Some(answer))
 }
 

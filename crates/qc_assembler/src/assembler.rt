@@ -66,6 +66,7 @@ impl Assembler {
     /// [`InsertError::TooManyParts`] exactly where more than [`MAX_PARTS`](crate::MAX_PARTS)
     /// separate parts would stand afterwards, and [`InsertError::OutOfMemory`]. After both,
     /// everything is as before.
+    #[inline(always)]
     pub fn insert(&mut self, offset: u64, bytes: Bytes) -> Result<(), InsertError>
         requires { offset + length bytes < 2 ^ 64 }
         ensures came { OnOk result (self.new ≡ inserted offset bytes self.old) }
@@ -115,6 +116,7 @@ impl Assembler {
     /// # Errors
     ///
     /// Want of memory; everything is then as before.
+    #[inline(always)]
     pub fn read(&mut self, most: usize) -> Result<Option<Bytes>, AllocError>
         ensures front { IfOk result (λ chunk. IsFront most self.old chunk) }
         ensures after { IfOk result (λ chunk. self.new ≡ advanced (length (bytes_of chunk)) self.old) }

@@ -61,6 +61,7 @@ impl PacketNumber {
     }
 
     /// Appends its bytes, the highest first. After want of memory `out` is as before.
+    #[inline(always)]
     #[tactic(auto, unfolding(crate::specs::PacketNumber::number_bytes))]
     pub fn encode(self, out: &mut Vec<u8>) -> Result<(), AllocError>
         ensures ok { OnOk result (out.new.items ≡ out.old.items ++ number_bytes self) }
@@ -81,6 +82,7 @@ impl PacketNumber {
     /// number after the greatest received so far; the greater one where two are as near
     /// (RFC 9000, appendix A.3). So a number that `new` cut comes back wherever it lies within half
     /// a window of the expected one.
+    #[inline(always)]
     pub fn expand(self, expected: u64) -> u64
         ensures nearest { IsNearest (number_window self) (number_low self) expected result }
         ensures comes_back { (n largest_acked : ℕ) → self ≡ number_of n largest_acked → n < 2 ^ 62

@@ -85,6 +85,7 @@ pub fn varint_size(n: u64) -> usize
 
 /// Appends `n` in its shortest form, `n` being below 2^62. (Of a greater number the lowest 62 bits
 /// are written, in eight bytes.) After want of memory `out` is as before.
+#[inline(always)]
 #[tactic(auto, unfolding(crate::specs::Varint::varint))]
 pub fn put_varint(out: &mut Vec<u8>, n: u64) -> Result<(), AllocError>
     ensures ok { OnOk result (out.new.items ≡ out.old.items ++ varint n) }

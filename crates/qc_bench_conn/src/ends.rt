@@ -4,20 +4,19 @@
 ghost use Rattle.std.specs.Prelude.{◌≡◌, IfOk};
 
 use bytes::BytesMut;
-use qc_base::{ConnectionId, Fault, Instant, Side, SystemTime, VarInt};
+use qc_base::{ConnectionId, Dir, Fault, Instant, Side, StreamId, SystemTime, VarInt};
 use qc_config::{FixedTime, NoneTokenStore, announced};
-use qc_conn::{ClientSetup, Connection, ConnectionEvent, ServerSetup, drive};
+use qc_conn::{ClientSetup, Connection, ConnectionEvent, ReadError, ServerSetup, WriteError};
 use qc_crypto::{ClientConfig, ServerConfig, Session};
 use qc_header::PartialDecode;
 use qc_params::TransportParameters;
 use qc_path::NewRenoConfig;
 use qc_recovery::TransportConfig;
-use qc_state::{Answer, Input, Suite, Trace};
+use qc_state::Suite;
 use qc_toy::{ToyClient, ToyServer, ToySession, ToySettings, ToyTokenKey, ZeroRandom};
 use std::alloc::{AllocError, Global};
 use std::default::Default;
 use std::net::{IpAddr, Ipv4Addr, SocketAddr};
-use std::slice;
 
 /// The types of both connections: toy sessions, NewReno, and zeros for random words.
 pub struct Toy;
@@ -162,32 +161,6 @@ fn made<T>(answer: Result<T, Fault>) -> Result<T, AllocError> {
     }
 }
 
-/// How much a call did: 1 where a stream was opened or accepted, and how many bytes were written or read; 0 where it was refused or
-/// gave nothing.
-fn amount_of(answer: &Answer) -> u64 {
-    match answer {
-        Answer::Opened(_) | Answer::Accepted(_) => 1,
-        Answer::Wrote(count) => *count,
-        Answer::Read { body, .. } => body.as_slice().len() as u64,
-        Answer::Done
-        | Answer::Dropped
-        | Answer::Nothing
-        | Answer::Flag(_)
-        | Answer::Ended
-        | Answer::Datagram(_)
-        | Answer::Error(_)
-        | Answer::Out { .. } => 0,
-    }
-}
-
-/// How much the last call of a trace did.
-fn last_amount(trace: &Trace) -> u64 {
-    match trace.as_slice().last() {
-        Some(step) => amount_of(&step.answer),
-        None => 0,
-    }
-}
-
 /// One end, and where its datagrams come from.
 #[derive(Drop)]
 pub struct End {
@@ -219,16 +192,20 @@ impl End {
         })
     }
 
-    /// Seals what is due into a buffer that is emptied first, and says whether there is anything.
+    /// Seals what is due into a buffer that is emptied first, at most so many datagrams, and answers the size of each but the last; 0
+    /// where there is none.
     fn sends(
         &mut self,
         alloc: Global,
         now: Instant,
+        batch: usize,
         buf: &mut Vec<u8>,
-    ) -> Result<bool, AllocError> {
+    ) -> Result<usize, AllocError> {
         buf.clear();
-        let sent = made(self.connection.poll_transmit(alloc, now, 1, buf))?;
-        Ok(sent.is_some())
+        match made(self.connection.poll_transmit(alloc, now, batch.max(1), buf))? {
+            Some(sent) => Ok(sent.segment_size.unwrap_or(sent.size)),
+            None => Ok(0),
+        }
     }
 
     /// A datagram comes from this address. A server waits for its first one; any other one is cut into its first packet and the rest.
@@ -269,27 +246,84 @@ impl End {
         }
     }
 
-    /// The application makes one call of streams. How much it did.
-    pub fn calls(&mut self, alloc: Global, input: &Input) -> Result<u64, AllocError> {
-        let inputs = slice::from_ref(input);
-        match drive(alloc, &mut self.connection, inputs, &mut NoneTokenStore) {
-            Ok(trace) => Ok(last_amount(&trace)),
-            Err(_) => Err(AllocError),
+    /// The application opens a bidirectional stream. 1 where it may, else 0.
+    pub fn opens(&mut self) -> Result<u64, AllocError> {
+        match made(self.connection.streams().open(Dir::Bi))? {
+            Some(_) => Ok(1),
+            None => Ok(0),
+        }
+    }
+
+    /// It accepts the next stream that the peer opened. 1 where there is one, else 0.
+    pub fn accepts(&mut self) -> u64 {
+        match self.connection.streams().accept(Dir::Bi) {
+            Some(_) => 1,
+            None => 0,
+        }
+    }
+
+    /// It writes on a stream. How many bytes it could.
+    pub fn writes(&mut self, id: StreamId, body: &[u8]) -> Result<u64, AllocError> {
+        if !self.connection.sends_on(id) {
+            return Ok(0);
+        }
+        match self.connection.send_stream(id).write(body) {
+            Ok(count) => Ok(count as u64),
+            Err(WriteError::OutOfMemory) | Err(WriteError::Failed) => Err(AllocError),
+            Err(_) => Ok(0),
+        }
+    }
+
+    /// It reads a stream until nothing more is there. How many bytes there were.
+    pub fn reads(&mut self, id: StreamId) -> Result<u64, AllocError> {
+        if !self.connection.receives_on(id) {
+            return Ok(0);
+        }
+        let mut stream = self.connection.recv_stream(id);
+        let Ok(mut chunks) = stream.read(true) else {
+            return Ok(0);
+        };
+        let mut sum: u64 = 0;
+        for _ in 0..u32::MAX {
+            match chunks.next(usize::MAX) {
+                Ok(Some(chunk)) => sum = sum.saturating_add(chunk.bytes.len() as u64),
+                Ok(None) | Err(ReadError::Blocked) | Err(ReadError::Reset(_)) => break,
+                Err(ReadError::OutOfMemory) | Err(ReadError::Failed) => return Err(AllocError),
+            }
+        }
+        Ok(sum)
+    }
+
+    /// What it reports is taken.
+    pub fn told(&mut self) {
+        for _ in 0..u32::MAX {
+            if self.connection.poll().is_none() {
+                break;
+            }
         }
     }
 }
 
-/// Carries all that an end sends at this time to the other one, and says how many datagrams there were.
-pub fn carry(alloc: Global, now: Instant, from: &mut End, to: &mut End) -> Result<u64, AllocError> {
+/// Carries all that an end sends at this time to the other one, at most so many datagrams a transmit, and says how many datagrams there were.
+pub fn carry(
+    alloc: Global,
+    now: Instant,
+    batch: usize,
+    from: &mut End,
+    to: &mut End,
+) -> Result<u64, AllocError> {
     let mut buf = Vec::new(alloc);
     let mut count: u64 = 0;
     from.expires(alloc, now)?;
     for _ in 0..u32::MAX {
-        if !from.sends(alloc, now, &mut buf)? {
+        let size = from.sends(alloc, now, batch, &mut buf)?;
+        if size == 0 {
             break;
         }
-        to.takes(alloc, now, from.address, buf.as_slice())?;
-        count = count.saturating_add(1);
+        for datagram in buf.chunks(size) {
+            to.takes(alloc, now, from.address, datagram)?;
+            count = count.saturating_add(1);
+        }
     }
     Ok(count)
 }

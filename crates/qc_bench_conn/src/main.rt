@@ -1,7 +1,8 @@
 //! The program `qc_bench_conn`: a client and a server in one program, with no script and no text. They make their handshake over the
 //! toy session; then in each turn the client writes so many bytes on each of its streams, the server reads them at once, and answers
 //! with its ACKs. It is there to be counted by an instruction counter: the difference of two runs is the cost of what the one did
-//! more. Arguments are words in fours, `bytes STREAMS TURNS SIZE`; each four write a line.
+//! more. Arguments are words in fours, `bytes STREAMS TURNS SIZE`, or `batches` in the place of `bytes`, where a transmit may seal 10 datagrams
+//! and not one; each four write a line.
 //!
 //! What the stored run writes is worked out by hand. A handshake takes 3 datagrams of the client's and 2 of the server's. A packet of
 //! 1,200 bytes has a header of 10 and a tag of 16, and room for 1,174 bytes of frames; a STREAM frame gets so many bytes that it has room with
@@ -15,13 +16,17 @@
 //! acknowledged, to 23,864 then: the 16 others go. In the second turn it lets 20 go, of 23,744 bytes, and then 6; and then it has 47,608, more than
 //! the 26 of a turn. So the server answers 2, 2, 1 and 1 times. The pacer holds none back: it lets two windows go at once in a round trip of 1 ms,
 //! and 2.5 come in 2 ms.
+//!
+//! In a transmit of several datagrams none is larger than the first one. Of 10,000 bytes on one stream that has 1,155 in a head of 4 bytes, 1,185 with
+//! its header and tag; so the others have room for 1,159 bytes of frames, and 1,140 of the stream; 8,845 are left, 7 such and one of 865: 9 datagrams,
+//! of 10,600 bytes, which one transmit seals. In the next turn the first head has 6 bytes, and the others hold 1,142 bytes each: 9 datagrams again.
+//! Each flight is acknowledged by one packet.
 #![tactic(auto)]
 
 mod ends;
 
 use ends::{End, carry};
 use qc_base::{Dir, Instant, Side, StreamId};
-use qc_state::{Body, Input};
 use std::alloc::{AllocError, Global};
 use std::{env, io};
 
@@ -54,6 +59,8 @@ struct Bench {
     server: End,
     /// The time in nanoseconds.
     nanos: u64,
+    /// How many datagrams a transmit may seal.
+    batch: usize,
     /// How many streams the client opens.
     streams: u32,
     /// How many of them the server has accepted.
@@ -111,63 +118,40 @@ fn wait(bench: &mut Bench) {
 
 /// The client opens a stream.
 fn open(bench: &mut Bench) -> Result<(), AllocError> {
-    let input = Input::Open {
-        now: now(bench),
-        dir: Dir::Bi,
-    };
-    let done = bench.client.calls(bench.alloc, &input)?;
+    let done = bench.client.opens()?;
     bench.sums.check(done, 1);
     Ok(())
 }
 
 /// The client writes on a stream.
 fn write(bench: &mut Bench, index: u32) -> Result<(), AllocError> {
-    let input = Input::Write {
-        now: now(bench),
-        id: stream(index),
-        body: Body::from_slice(bench.alloc, bench.body.as_slice())?,
-    };
-    let done = bench.client.calls(bench.alloc, &input)?;
+    let done = bench.client.writes(stream(index), bench.body.as_slice())?;
     bench.sums.written = bench.sums.written.saturating_add(done);
     bench.sums.check(done, bench.body.len() as u64);
     Ok(())
 }
 
 /// The server accepts all streams that it hasn't and that are there.
-fn accept(bench: &mut Bench) -> Result<(), AllocError> {
+fn accept(bench: &mut Bench) {
     for _ in bench.accepted..bench.streams {
-        let input = Input::Accept {
-            now: now(bench),
-            dir: Dir::Bi,
-        };
-        if bench.server.calls(bench.alloc, &input)? == 0 {
+        if bench.server.accepts() == 0 {
             break;
         }
         bench.accepted = bench.accepted.saturating_add(1);
     }
-    Ok(())
 }
 
 /// The server reads a stream until nothing more is there.
 fn read(bench: &mut Bench, index: u32) -> Result<(), AllocError> {
-    let input = Input::Read {
-        now: now(bench),
-        id: stream(index),
-        max: usize::MAX,
-    };
-    for _ in 0..u32::MAX {
-        let done = bench.server.calls(bench.alloc, &input)?;
-        if done == 0 {
-            break;
-        }
-        bench.sums.read = bench.sums.read.saturating_add(done);
-    }
+    let done = bench.server.reads(stream(index))?;
+    bench.sums.read = bench.sums.read.saturating_add(done);
     Ok(())
 }
 
 /// The server reads all that came.
 fn read_all(bench: &mut Bench) -> Result<(), AllocError> {
-    accept(bench)?;
+    bench.server.told();
+    accept(bench);
     for index in 0..bench.accepted {
         read(bench, index)?;
     }
@@ -178,7 +162,13 @@ fn read_all(bench: &mut Bench) -> Result<(), AllocError> {
 fn there(bench: &mut Bench) -> Result<u64, AllocError> {
     wait(bench);
     let time = now(bench);
-    let count = carry(bench.alloc, time, &mut bench.client, &mut bench.server)?;
+    let count = carry(
+        bench.alloc,
+        time,
+        bench.batch,
+        &mut bench.client,
+        &mut bench.server,
+    )?;
     bench.sums.sent = bench.sums.sent.saturating_add(count);
     if count > 0 {
         read_all(bench)?;
@@ -190,7 +180,13 @@ fn there(bench: &mut Bench) -> Result<u64, AllocError> {
 fn back(bench: &mut Bench) -> Result<u64, AllocError> {
     wait(bench);
     let time = now(bench);
-    let count = carry(bench.alloc, time, &mut bench.server, &mut bench.client)?;
+    let count = carry(
+        bench.alloc,
+        time,
+        bench.batch,
+        &mut bench.server,
+        &mut bench.client,
+    )?;
     bench.sums.answered = bench.sums.answered.saturating_add(count);
     Ok(count)
 }
@@ -233,7 +229,7 @@ fn body_of(alloc: Global, size: u32) -> Result<Vec<u8>, AllocError> {
     Ok(body)
 }
 
-fn bench_of(alloc: Global, streams: u32, size: u32) -> Result<Bench, AllocError> {
+fn bench_of(alloc: Global, batch: usize, streams: u32, size: u32) -> Result<Bench, AllocError> {
     let client = End::client(alloc)?;
     let server = End::server(alloc, streams)?;
     let body = body_of(alloc, size)?;
@@ -242,6 +238,7 @@ fn bench_of(alloc: Global, streams: u32, size: u32) -> Result<Bench, AllocError>
         client,
         server,
         nanos: 0,
+        batch,
         streams,
         accepted: 0,
         body,
@@ -258,8 +255,14 @@ fn work(bench: &mut Bench, turns: u32) -> Result<(), AllocError> {
     Ok(())
 }
 
-fn run(alloc: Global, streams: u32, turns: u32, size: u32) -> Result<Sums, AllocError> {
-    let mut bench = bench_of(alloc, streams, size)?;
+fn run(
+    alloc: Global,
+    batch: usize,
+    streams: u32,
+    turns: u32,
+    size: u32,
+) -> Result<Sums, AllocError> {
+    let mut bench = bench_of(alloc, batch, streams, size)?;
     work(&mut bench, turns)?;
     Ok(bench.sums)
 }
@@ -271,23 +274,27 @@ fn number(word: Option<&String>) -> u32 {
     }
 }
 
-/// Whether a word asks for bytes on streams.
-fn is_bytes(word: Option<&String>) -> bool {
+/// How many datagrams a transmit may seal, by the word that asks for bytes on streams; None of another word.
+fn batch_of(word: Option<&String>) -> Option<usize> {
     match word {
-        None => false,
-        Some(word) => word.as_str() == "bytes",
+        None => None,
+        Some(word) => match word.as_str() {
+            "bytes" => Some(1),
+            "batches" => Some(10),
+            _ => None,
+        },
     }
 }
 
 /// Runs what four words ask for, and prints what was done.
 fn report(rt: &HostRuntime, words: &[String]) -> io::Result<()> {
-    if !is_bytes(words.first()) {
-        return println!(rt; "usage: qc_bench_conn bytes STREAMS TURNS SIZE ..");
-    }
+    let Some(batch) = batch_of(words.first()) else {
+        return println!(rt; "usage: qc_bench_conn bytes|batches STREAMS TURNS SIZE ..");
+    };
     let streams = number(words.get(1));
     let turns = number(words.get(2));
     let size = number(words.get(3));
-    match run(rt.alloc(), streams, turns, size) {
+    match run(rt.alloc(), batch, streams, turns, size) {
         Ok(sums) => println!(rt;
             "written {} read {} sent {} answered {} status {}",
             sums.written,

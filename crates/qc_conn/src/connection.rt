@@ -60,6 +60,7 @@ use qc_state::{
 };
 use std::alloc::{AllocError, Global};
 use std::marker::Model;
+use std::mem::replace;
 use std::net::SocketAddr;
 
 /// A connection. It does no input or output: inputs are handed in, and what is to be sent comes out of `poll_transmit`.
@@ -72,6 +73,8 @@ pub struct Connection<U: Suite> {
     pub(crate) core: Core<U>,
     steps: u64,
     server_name: String,
+    // the room for the deeds of calls, which no one keeps
+    deeds: Dids,
 }
 
 /// Why a server that was handed its first packet doesn't go on.
@@ -146,6 +149,7 @@ impl<U: Suite> Connection<U> {
             core,
             steps: 0,
             server_name,
+            deeds: Dids::new(alloc),
         })
     }
 
@@ -184,6 +188,7 @@ impl<U: Suite> Connection<U> {
             core,
             steps: 0,
             server_name: String::new(alloc),
+            deeds: Dids::new(alloc),
         })
     }
 
@@ -254,13 +259,23 @@ impl<U: Suite> Connection<U> {
         if self.is_failed() {
             return Err(Fault::Failed);
         }
-        match core_event(&mut self.core, alloc, event) {
+        let room = replace(&mut self.deeds, Dids::new(alloc));
+        match core_event(&mut self.core, alloc, event, room) {
             Ok(did) => Ok(did),
             Err(_) => {
                 self.fail();
                 Err(Fault::OutOfMemory)
             }
         }
+    }
+
+    /// Lets go of deeds, and keeps their room.
+    fn keep_room(&mut self, did: Dids)
+        ensures { self.new ≡ self.old }
+    {
+        let mut did = did;
+        did.clear();
+        self.deeds = did;
     }
 
     /// The tokens of what was done go into the store under the server's name. Want of memory is the only refusal: the first of them may be there
@@ -319,7 +334,10 @@ impl<U: Suite> Connection<U> {
     {
         match self.take_event(alloc, event) {
             Ok(did) => match self.store_tokens(alloc, &did, store) {
-                Ok(()) => Ok(()),
+                Ok(()) => {
+                    self.keep_room(did);
+                    Ok(())
+                }
                 Err(_) => Err(Fault::OutOfMemory),
             },
             Err(fault) => Err(fault),
@@ -451,7 +469,14 @@ impl<U: Suite> Connection<U> {
         if self.is_failed() {
             return Err(Fault::Failed);
         }
-        match core_send(&mut self.core, alloc, now, max_datagrams, buf) {
+        match core_send(
+            &mut self.core,
+            alloc,
+            now,
+            max_datagrams,
+            buf,
+            &mut self.deeds,
+        ) {
             Ok(sent) => Ok(sent),
             Err(_) => {
                 self.fail();
@@ -539,6 +564,7 @@ impl<U: Suite> Connection<U> {
             core,
             steps: 0,
             server_name: String::new(alloc),
+            deeds: Dids::new(alloc),
         }
     }
 

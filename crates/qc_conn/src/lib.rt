@@ -35,8 +35,8 @@ pub use qc_receive::ConnectionEvent;
 pub use qc_recovery::TransportConfig;
 pub use qc_state::{
     Answer, ApplicationClose, Body, ConnectionClose, ConnectionError, Did, Dids, EndpointEvent,
-    EndpointEvents, Event, Events, IdList, Input, Layer, Means, Quiet, Refusal, Step, Suite, Trace,
-    Transmit, Verdict, Word, negotiate_max_idle_timeout,
+    EndpointEvents, Event, Events, Given, IdList, Input, Layer, Means, Quiet, Refusal, Step, Suite,
+    Trace, Transmit, Verdict, Word, negotiate_max_idle_timeout,
 };
 pub use qc_streams::{
     Chunk, Chunks, ClosedStream, FinishError, ReadError, ReadableError, RecvStream, SendStream,

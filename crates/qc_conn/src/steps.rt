@@ -57,21 +57,23 @@ fn sent_answer(sent: Option<Transmit>, buf: Vec<u8>) -> Answer
     }
 }
 
-/// A transmit at `now` into an empty buffer, whose deeds no one keeps.
+/// A transmit at `now` into an empty buffer. No one keeps its deeds, of which `did` gives the room.
 pub(crate) fn core_send<U: Suite>(
     core: &mut Core<U>,
     alloc: Global,
     now: Instant,
     max_datagrams: usize,
     buf: &mut Vec<u8>,
+    did: &mut Dids,
 ) -> Result<Option<Transmit>, AllocError>
     requires some { 1 ≤ max_datagrams }
     requires empty { buf.old.items ≡ [] }
     ensures { IfOk result (λ sent. Sends ⟦<U as Means>⟧.meaning now max_datagrams (ideal U.Random.stream core.old) (ideal U.Random.stream core.new) sent buf.new.items) }
 {
-    let mut did = Dids::new(alloc);
+    did.clear();
     core.clock(now);
-    let sent = transmit(core, alloc, now, max_datagrams, buf, &mut did)?;
+    let sent = transmit(core, alloc, now, max_datagrams, buf, did)?;
+    did.clear();
     Ok(sent)
 }
 
@@ -118,17 +120,19 @@ fn core_ids<U: Suite>(
     core.issue(now, given)
 }
 
-/// An endpoint hands over what came. Answers what was done.
+/// An endpoint hands over what came. Answers what was done, in the room of these deeds, which are let go.
 pub(crate) fn core_event<U: Suite>(
     core: &mut Core<U>,
     alloc: Global,
     event: ConnectionEvent,
+    room: Dids,
 ) -> Result<Dids, AllocError>
     requires some { LeavesBytes event }
     requires given { GivesRight event core.old.lower.ids }
     ensures { IfOk result (λ did. (held U.Random.stream core.new did) ≡ handed_after ⟦<U as Means>⟧.meaning event (began (ideal U.Random.stream core.old) (time_of_event event))) }
 {
-    let mut did = Dids::new(alloc);
+    let mut did = room;
+    did.clear();
     match event {
         ConnectionEvent::Datagram {
             now,

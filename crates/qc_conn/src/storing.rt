@@ -7,7 +7,7 @@ ghost use Rattle.qc_state.specs.declared.deeds.Layer.{Layer};
 use bytes::Bytes;
 use qc_config::TokenStore;
 use qc_frame::{FrameOf, first_frame};
-use qc_state::{Did, Layer};
+use qc_state::{Did, Given, Layer};
 use std::alloc::{AllocError, Global};
 
 /// The token of a NEW_TOKEN, as it was given, goes into the store. Want of memory is the only refusal.
@@ -33,6 +33,21 @@ fn store_token<G: TokenStore>(
     }
 }
 
+/// The same of what the store was given, which is written for it.
+fn store_given<G: TokenStore>(
+    alloc: Global,
+    store: &mut G,
+    server_name: &str,
+    body: &Given,
+) -> Result<(), AllocError>
+    ensures ok { OnOk result (store.new ≡ stored G.inserted server_name.now (tokens_of Layer.Store body.now) store.old) }
+    ensures err { OnErr result (store.new ≡ store.old) }
+{
+    let mut bytes = Vec::new(alloc);
+    body.put(&mut bytes)?;
+    store_token(alloc, store, server_name, bytes.as_slice())
+}
+
 /// The token of a deed goes into the store, if it gave the store one. Want of memory is the only refusal.
 fn store_did<G: TokenStore>(
     alloc: Global,
@@ -45,7 +60,7 @@ fn store_did<G: TokenStore>(
 {
     match did {
         Did::Gave { layer, body } => match layer {
-            Layer::Store => store_token(alloc, store, server_name, body.as_slice()),
+            Layer::Store => store_given(alloc, store, server_name, body),
             Layer::Streams | Layer::Recovery | Layer::Session | Layer::Ids | Layer::Life => Ok(()),
         },
         Did::Sealed { .. } | Did::Piece { .. } | Did::Rose { .. } | Did::Lost(_) | Did::Quiet(_) =>

@@ -128,7 +128,14 @@ fn server_session(alloc: Global) -> Option<ToySession>
     server.start_session(alloc, 1, &params).ok()
 }
 
-/// A server made at 0 for a client whose first packet has these ids, on the heap as the clients are.
+/// A server on the heap, as the clients are.
+fn boxed(alloc: Global, server: Connection<Toy>) -> Option<Box<Connection<Toy>>>
+    ensures { IfSome result (λ s. s.value ≡ server) }
+{
+    Box::new(alloc, server).ok()
+}
+
+/// A server made at 0 for a client whose first packet has these ids.
 #[tactic(auto, unfolding(qc_state::specs::First::server_view, qc_state::specs::Paths::only_path, qc_state::specs::Paths::new_path, qc_state::specs::Setup::is_first_awaited, qc_state::specs::Setup::ideal_setup))]
 fn server(
     alloc: Global,
@@ -167,7 +174,7 @@ fn server(
         validated: false,
     };
     let server = Connection::new_server(alloc, setup, Instant::from_nanos(0)).ok()?;
-    Box::new(alloc, server).ok()
+    boxed(alloc, server)
 }
 
 /// What a transmit at 2 seals.

@@ -4,6 +4,7 @@ pub mod DatagramCalls
 pub mod EndpointPolls
 pub mod Expiring
 pub mod GivenReasons
+pub mod NothingHeld
 pub mod NumberLengths
 pub mod Skips
 pub mod StreamCalls

@@ -40,8 +40,9 @@ pub(crate) fn hand<S>(
     ensures handed { OnOk result (lower.new ≡ frame_handed (borrowed frame.now) lower.old) }
     ensures told { OnOk result (did.new ≡ told did.old (told_to_streams (borrowed frame.now))) }
 {
-    let (stop, tells) = lower.hand(alloc, frame)?;
+    let frame = frame.to_owned(alloc)?;
+    let (stop, tells) = lower.hand(&frame)?;
     hear(life, tells)?;
-    tell_handed(alloc, did, frame)?;
+    tell_handed(did, frame)?;
     Ok(stop)
 }

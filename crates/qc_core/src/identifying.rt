@@ -16,9 +16,9 @@ ghost use Rattle.qc_state.specs.View.{held, ideal};
 use crate::state::Core;
 use qc_base::{Instant, IssuedCid, Side, TransportError, TransportErrorCode};
 use qc_cids::ConnectionIds;
-use qc_frame::{Frame, FrameOf, NewConnectionId, put_frame};
+use qc_frame::{Frame, FrameOf, NewConnectionId};
 use qc_params::TransportParameters;
-use qc_state::{Body, Did, Dids, Layer, Life, Suite};
+use qc_state::{Did, Dids, Given, Layer, Life, Suite};
 use std::alloc::{AllocError, Global};
 use std::net::SocketAddr;
 
@@ -40,9 +40,8 @@ pub(crate) fn active_limit(peer: &Option<TransportParameters>) -> u64
 fn tell_ids(alloc: Global, did: &mut Dids, frame: &Frame<'_>) -> Result<(), AllocError>
     ensures { OnOk result (did.new ≡ did.old ++ Did.Gave Layer.Ids (spelling (borrowed frame.now)) ∷ []) }
 {
-    let mut bytes = Vec::new(alloc);
-    put_frame(&mut bytes, frame)?;
-    did.push_gave(Layer::Ids, Body::from_vec(bytes))
+    let frame = frame.to_owned(alloc)?;
+    did.push_gave(Layer::Ids, Given::of_frame(frame))
 }
 
 /// CONNECTION_ID_LIMIT_ERROR, where more retirements wait than may (RFC 9000, 5.1.2).

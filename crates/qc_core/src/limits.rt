@@ -5,7 +5,7 @@ ghost use Rattle.qc_state.specs.Keys.{has_keys_for};
 ghost use Rattle.qc_state.specs.Life.{is_established};
 ghost use Rattle.qc_state.specs.declared.form.Form.TheVariants.{OneRtt};
 ghost use Rattle.qc_state.specs.Moves.{Finish, Hold, Probe, Spend, move_to, state_move};
-ghost use Rattle.qc_state.specs.Sending.{is_congested, is_eager, limit_in, paced_until, probe_size, rate_of, spent_after, told_sent};
+ghost use Rattle.qc_state.specs.Sending.{held_in, is_congested, is_eager, limit_in, paced_until, probe_size, rate_of, spent_after, told_sent};
 ghost use Rattle.qc_state.specs.View.{ideal, held};
 
 use crate::state::Core;
@@ -13,6 +13,23 @@ use qc_base::{Instant, SpaceId};
 use qc_path::{Controller, PathRate};
 use qc_state::paths::held_size;
 use qc_state::{Batch, Dids, Form, Means, Quiet, Suite};
+
+/// What holds back a datagram that a packet of a space would begin, on a path that isn't blocked: the window, or the pacer, where what waits
+/// there is eager.
+fn held_in(eager: bool, congested: bool, paced: bool) -> Option<Quiet>
+    ensures { result ≡ held_in eager congested paced }
+{
+    if !eager {
+        return None;
+    }
+    if congested {
+        return Some(Quiet::Congestion);
+    }
+    if paced {
+        return Some(Quiet::Pacing);
+    }
+    None
+}
 
 impl<U: Suite> Core<U> {
     /// Whether what goes in the space is held back by the window and the pacer: a frame waits there that elicits an acknowledgement,
@@ -47,6 +64,7 @@ impl<U: Suite> Core<U> {
     }
 
     /// Until when so many bytes are to wait for the pacer, if they are.
+    #[inline(always)]
     #[tactic(auto, unfolding(qc_state::specs::Sending::paced_until))]
     pub fn paced_until(&self, now: Instant, bytes: u64) -> Option<Instant>
         ensures { result ≡ paced_until ⟦<U as Means>⟧.meaning now (ideal U.Random.stream self.now) bytes }
@@ -57,24 +75,22 @@ impl<U: Suite> Core<U> {
     }
 
     /// What holds back a datagram that a packet of this space would begin: the first limit that stands, if one does.
-    #[tactic(auto, unfolding(qc_state::specs::Sending::limit_in))]
+    #[inline(always)]
+    #[tactic(auto, unfolding(qc_state::specs::Sending::limit_in), using(crate::proofs::NothingHeld::none_held))]
     pub fn limit(&self, now: Instant, batch: &Batch, space: SpaceId) -> Option<Quiet>
         ensures { result ≡ limit_in ⟦<U as Means>⟧.meaning now (ideal U.Random.stream self.now) batch.now space }
     {
         if self.paths.is_blocked_behind(batch.total) {
             return Some(Quiet::Amplification);
         }
-        if !self.is_eager(space) {
+        // What waits is asked for last, since that takes longest.
+        let bytes = batch.next_segment();
+        let congested = self.is_congested(bytes);
+        let paced = self.paced_until(now, bytes).is_some();
+        if !congested && !paced {
             return None;
         }
-        let bytes = batch.next_segment();
-        if self.is_congested(bytes) {
-            return Some(Quiet::Congestion);
-        }
-        if self.paced_until(now, bytes).is_some() {
-            return Some(Quiet::Pacing);
-        }
-        None
+        held_in(self.is_eager(space), congested, paced)
     }
 
     /// Whether a probe of the path's size may be sent: the handshake is over, and the address is validated.

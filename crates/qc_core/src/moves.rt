@@ -52,8 +52,8 @@ use qc_state::tokens::asked_tokens;
 use qc_state::unblocking::take_frames;
 use qc_state::waiting::holds_ack;
 use qc_state::{
-    Body, Close, Did, Dids, EndpointEvent, EndpointEvents, Event, Events, Form, Layer, Means,
-    Quiet, SPARE_ROOM, Signs, State, Suite, Verdict, id_settling,
+    Body, Close, Did, Dids, EndpointEvent, EndpointEvents, Event, Events, Form, Given, Layer,
+    Means, Quiet, SPARE_ROOM, Signs, State, Suite, Verdict, id_settling,
 };
 use qc_streams::StreamEvent;
 use std::alloc::{AllocError, Global};
@@ -469,7 +469,7 @@ impl<U: Suite> Core<U> {
     }
 
     /// A frame is given to a layer.
-    pub fn do_tell_gave(&self, did: &mut Dids, layer: Layer, body: Body) -> Result<(), AllocError>
+    pub fn do_tell_gave(&self, did: &mut Dids, layer: Layer, body: Given) -> Result<(), AllocError>
         ensures { OnOk result ((held U.Random.stream self.now did.new) ≡ move_to (Tell (Did.Gave layer body)) (held U.Random.stream self.now did.old)) }
     {
         did.push_gave(layer, body)

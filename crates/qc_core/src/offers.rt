@@ -112,6 +112,7 @@ impl<U: Suite> Core<U> {
     }
 
     /// Whether a frame waits in the space that elicits an acknowledgement, DATAGRAMs aside.
+    #[inline(always)]
     #[tactic(auto, unfolding(qc_state::specs::Offers::wants_sending))]
     pub fn wants_sending(&self, space: SpaceId) -> bool
         ensures { result ≡ wants_sending (ideal U.Random.stream self.now) space }
@@ -139,12 +140,15 @@ impl<U: Suite> Core<U> {
     }
 
     /// Whether an ACK is all that is owed in the space, a probe aside.
+    #[tactic(auto, using(crate::proofs::NothingHeld::none_owed, crate::proofs::NothingHeld::owed_alone))]
     pub fn owes_ack_alone(&self, space: SpaceId) -> bool
         ensures { result ≡ (not (wants_sending (ideal U.Random.stream self.now) space || datagram_waits space (ideal U.Random.stream self.now)) && is_ack_owed (space_of self.now.waiting.spaces space).acks) }
     {
-        let wants = self.wants_sending(space) || self.datagram_waits(space);
         let owes = self.waiting.owes_ack(space);
-        !wants && owes
+        if !owes {
+            return false;
+        }
+        !self.wants(space)
     }
 
     /// The frames of the space's oldest packet in flight wait again, where there is one. Want of memory is the only refusal.

@@ -106,6 +106,7 @@ impl<U: Suite> Core<U> {
     }
 
     /// The loss timer is set anew. `blocked` says that no datagram may be begun.
+    #[inline(always)]
     #[tactic(auto, unfolding(qc_state::specs::Moves::armed_with, qc_state::specs::Moves::move_to, qc_state::specs::Moves::deeds_move))]
     pub fn arm_with(&mut self, did: &Dids, blocked: bool, now: Instant)
         ensures { (held U.Random.stream self.new did.now) ≡ armed_with blocked now (held U.Random.stream self.old did.now) }
@@ -133,6 +134,7 @@ impl<U: Suite> Core<U> {
 
     /// A packet of so many bytes was sealed: where it counts as in flight, the pacer's tokens are fewer, and the loss timer is set
     /// anew. `counts` is what `is_flown` said before it was sealed. The packet's own bytes block nothing yet.
+    #[inline(always)]
     pub fn fly_after(&mut self, did: &Dids, now: Instant, size: u64, counts: bool)
         ensures { (held U.Random.stream self.new did.now) ≡ flown_after ⟦<U as Means>⟧.meaning now size counts (held U.Random.stream self.old did.now) }
     {

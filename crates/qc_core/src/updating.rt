@@ -76,6 +76,7 @@ impl<U: Suite> Core<U> {
 
 impl<U: Suite> Core<U> {
     /// A packet with this number opened, by these keys of the ring if it is a 1-RTT one: the ring makes its step (RFC 9001, 6.2 and 6.5).
+    #[inline(always)]
     #[tactic(auto, unfolding(qc_state::specs::Moves::move_to, qc_state::specs::Moves::deeds_move))]
     pub fn unsealed(&mut self, did: &Dids, now: Instant, which: Option<Which>, number: u64)
         ensures { (held U.Random.stream self.new did.now) ≡ unsealed_after ⟦<U as Means>⟧.meaning now which number (held U.Random.stream self.old did.now) }
@@ -118,6 +119,7 @@ impl<U: Suite> Core<U> {
 
     /// A packet of this form is about to begin: where its keys have sealed as many packets as they are to seal, this end tries to update them
     /// (RFC 9001, 6.6).
+    #[inline(always)]
     #[tactic(auto, unfolding(qc_state::specs::Updating::tried_after))]
     pub fn try_update(&mut self, did: &Dids, form: Form)
         ensures { (held U.Random.stream self.new did.now) ≡ tried_after ⟦<U as Means>⟧.meaning form (held U.Random.stream self.old did.now) }

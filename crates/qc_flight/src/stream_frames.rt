@@ -5,6 +5,7 @@ ghost use Rattle.std.specs.Prelude.{◌≡◌, [], ◌∷◌, ◌++◌, OnOk, On
 use qc_base::StreamId;
 use std::alloc::{AllocError, Global};
 use std::marker::Model;
+use std::slice;
 
 /// Which bytes of a stream a STREAM frame held, and whether the stream's end was with them (RFC 9000, section 19.8). The bytes
 /// themselves stay with the stream until they are acknowledged.
@@ -23,7 +24,9 @@ pub struct StreamMeta {
 /// The STREAM frames of a packet, in their order.
 #[derive(Debug, Drop)]
 pub struct StreamMetaVec {
-    frames: Vec<StreamMeta>,
+    // one that is alone, which takes no memory; then there are no several
+    one: Option<StreamMeta>,
+    several: Vec<StreamMeta>,
 }
 
 impl Model for StreamMetaVec {
@@ -32,7 +35,9 @@ impl Model for StreamMetaVec {
 
     ghost Value = { List StreamMeta };
 
-    ghost view = { λ l. l.frames.items };
+    ghost use Rattle.qc_flight.specs.StreamFrames.{frames_held};
+
+    ghost view = { λ l. frames_held l.one l.several.items };
 }
 
 impl StreamMetaVec {
@@ -41,7 +46,8 @@ impl StreamMetaVec {
         ensures { result ≡ [] }
     {
         StreamMetaVec {
-            frames: Vec::new(alloc),
+            one: None,
+            several: Vec::new(alloc),
         }
     }
 
@@ -50,14 +56,45 @@ impl StreamMetaVec {
         ensures ok { OnOk result (self.new ≡ self.old ++ frame ∷ []) }
         ensures err { OnErr result (self.new ≡ self.old) }
     {
-        self.frames.push(frame)?;
-        Ok(())
+        match self.one {
+            Some(one) => {
+                push_both(&mut self.several, one, frame)?;
+                self.one = None;
+                Ok(())
+            }
+            None => {
+                if self.several.is_empty() {
+                    self.one = Some(frame);
+                    return Ok(());
+                }
+                self.several.push(frame)?;
+                Ok(())
+            }
+        }
     }
 
     /// The frames.
     pub fn as_slice(&self) -> &[StreamMeta]
         ensures { result.now ≡ self.now }
     {
-        self.frames.as_slice()
+        match &self.one {
+            Some(one) => slice::from_ref(one),
+            None => self.several.as_slice(),
+        }
     }
+}
+
+/// Puts two frames in the place of all. Want of memory is the only refusal.
+fn push_both(
+    several: &mut Vec<StreamMeta>,
+    one: StreamMeta,
+    other: StreamMeta,
+) -> Result<(), AllocError>
+    ensures { OnOk result (several.new.items ≡ one ∷ other ∷ []) }
+{
+    several.clear();
+    several.reserve(2)?;
+    several.push_reserved(one);
+    several.push_reserved(other);
+    Ok(())
 }

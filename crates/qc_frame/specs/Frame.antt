@@ -1,6 +1,5 @@
 -- A frame as a value (RFC 9000, section 19): each byte string is the list of its bytes
-use Rattle.std.specs.Prelude.{ℕ, List, Vec}
-use Rattle.std.specs.Global.{Global}
+use Rattle.std.specs.Prelude.{ℕ, List}
 use Rattle.std.specs.Borrow.{Bor}
 use Rattle.qc_frame.specs.declared.frames.AckOf.{AckOf}
 use Rattle.qc_frame.specs.declared.frames.FrameOf.{FrameOf}
@@ -53,8 +52,8 @@ abbrev pub borrowed : FrameOf (Bor (List ℕ)) → FrameValue
 borrowed = frame_map (λ b. b.now)
 
 -- the value of a frame that has byte strings of its own
-abbrev pub owned : FrameOf (Vec ℕ Global) → FrameValue
-owned = frame_map (λ v. v.items)
+abbrev pub owned : FrameOf (List ℕ) → FrameValue
+owned = frame_map (λ b. b)
 
 -- the value of a frame that was read, and its type
 abbrev pub typed : TypedOf (Bor (List ℕ)) → TypedValue

@@ -13,6 +13,7 @@ ghost use Rattle.qc_frame.specs.declared.frames.FrameOf.TheVariants as frames;
 ghost use Rattle.qc_frame.specs.FrameSpelling.{numbers_of};
 
 use crate::frames::{Ack, AckOf, EcnCounts, OwnedAck};
+use bytes::Bytes;
 use qc_base::{ArrayRangeSet, Cut, NumberRange, put_varint, read_varint};
 use std::alloc::{AllocError, Global};
 use std::marker::Model;
@@ -149,12 +150,13 @@ fn ack_of(
     requires normal { Normal ranges.now }
     requires some { 0 < length ranges.now }
     requires small { (slice_index_or ranges.now (length ranges.now - 1) (record { first = 0; last = 0 })).last < 2 ^ 62 }
-    ensures says { IfOk result (λ ack. SaysSet ack.largest ack.additional.items ranges.now) }
+    ensures says { IfOk result (λ ack. SaysSet ack.largest ack.additional ranges.now) }
     ensures others { IfOk result (λ ack. (ack.delay ≡ delay) × (ack.ecn ≡ ecn)) }
 {
     let mut additional = Vec::new(alloc);
     put_ranges(&mut additional, ranges)?;
     let largest = ranges[ranges.len() - 1].last;
+    let additional = Bytes::from_vec(additional)?;
     Ok(AckOf {
         largest,
         delay,
@@ -175,11 +177,11 @@ impl OwnedAck {
     ) -> Result<Option<OwnedAck>, AllocError>
         ensures none { IfOk result (λ r. IfNone r (ArePackets numbers.now → ⊥)) }
         ensures some { IfOk result (λ r. IfSome r (λ _. ArePackets numbers.now)) }
-        ensures numbers { IfOk result (λ r. IfSome r (λ ack. (n : ℕ) → Acknowledges (ack_map (λ bytes. bytes.items) ack) n ↔ Member n numbers.now)) }
-        ensures ranges { IfOk result (λ r. IfSome r (λ ack. ranges_of (ack_map (λ bytes. bytes.items) ack) ≡ reverse numbers.now)) }
-        ensures shortest { IfOk result (λ r. IfSome r (λ ack. ack.additional.items ≡ flat_map varint (numbers_of ack.additional.items))) }
+        ensures numbers { IfOk result (λ r. IfSome r (λ ack. (n : ℕ) → Acknowledges (ack_map (λ bytes. bytes) ack) n ↔ Member n numbers.now)) }
+        ensures ranges { IfOk result (λ r. IfSome r (λ ack. ranges_of (ack_map (λ bytes. bytes) ack) ≡ reverse numbers.now)) }
+        ensures shortest { IfOk result (λ r. IfSome r (λ ack. ack.additional ≡ flat_map varint (numbers_of ack.additional))) }
         ensures others { IfOk result (λ r. IfSome r (λ ack. (ack.delay ≡ delay) × (ack.ecn ≡ ecn))) }
-        ensures fits { delay < 2 ^ 62 → CountsFit ecn → IfOk result (λ r. IfSome r (λ ack. Fits (frames.Ack (ack_map (λ bytes. bytes.items) ack)))) }
+        ensures fits { delay < 2 ^ 62 → CountsFit ecn → IfOk result (λ r. IfSome r (λ ack. Fits (frames.Ack (ack_map (λ bytes. bytes) ack)))) }
     {
         let ranges = numbers.as_slice();
         if !are_packets(ranges) {
@@ -191,7 +193,7 @@ impl OwnedAck {
 
     /// The ranges of packet numbers that the frame acknowledges, from the greatest down.
     pub fn ranges(&self) -> AckRanges<'_>
-        ensures { result ≡ ranges_of (ack_map (λ bytes. bytes.items) self.now) }
+        ensures { result ≡ ranges_of (ack_map (λ bytes. bytes) self.now) }
     {
         AckRanges {
             largest: self.largest,

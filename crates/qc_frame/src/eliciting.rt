@@ -5,14 +5,28 @@ ghost use Rattle.std.specs.List.{list_any};
 ghost use Rattle.qc_frame.specs.Frame.{owned};
 ghost use Rattle.qc_frame.specs.FrameSpelling.{elicits};
 
-use crate::frames::OwnedFrame;
+use crate::frames::{FrameOf, OwnedFrame};
 use crate::list::FrameList;
+
+/// Whether a packet with this frame asks for an acknowledgement.
+#[tactic(auto, unfolding(crate::specs::FrameSpelling::elicits))]
+fn is_eliciting(frame: &OwnedFrame) -> bool
+    ensures { result ≡ elicits (owned frame.now) }
+{
+    match frame {
+        FrameOf::Padding
+        | FrameOf::Ack(_)
+        | FrameOf::ConnectionClose { .. }
+        | FrameOf::ApplicationClose { .. } => false,
+        _ => true,
+    }
+}
 
 fn any_elicits(frames: &[OwnedFrame]) -> bool
     ensures { result ≡ list_any elicits (map owned frames.now) }
 {
     for frame in frames {
-        if frame.as_frame().is_ack_eliciting() {
+        if is_eliciting(frame) {
             return true;
         }
     }

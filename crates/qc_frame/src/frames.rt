@@ -3,6 +3,7 @@
 ghost use Rattle.std.specs.Prelude.{◌≡◌, IfOk};
 ghost use Rattle.qc_frame.specs.Frame.{borrowed, owned};
 
+use bytes::Bytes;
 use qc_base::{ConnectionId, Dir, ResetToken, StreamId, TransportErrorCode, VarInt};
 use std::alloc::{AllocError, Global};
 
@@ -159,10 +160,10 @@ pub type Frame<'a> = FrameOf<&'a [u8]>;
 pub type Ack<'a> = AckOf<&'a [u8]>;
 
 /// An ACK frame with ranges of its own.
-pub type OwnedAck = AckOf<Vec<u8>>;
+pub type OwnedAck = AckOf<Bytes>;
 
-/// A frame with byte strings of its own.
-pub type OwnedFrame = FrameOf<Vec<u8>>;
+/// A frame with byte strings of its own, which it may share with others.
+pub type OwnedFrame = FrameOf<Bytes>;
 
 /// The same frame, each of its byte strings changed.
 macro_rules! with_bytes {
@@ -259,6 +260,7 @@ macro_rules! with_bytes {
 
 impl OwnedFrame {
     /// The same frame, its byte strings borrowed.
+    #[inline(always)]
     pub fn as_frame(&self) -> Frame<'_>
         ensures { borrowed result ≡ owned self.now }
     {
@@ -268,9 +270,10 @@ impl OwnedFrame {
 
 impl Frame<'_> {
     /// The same frame, with byte strings of its own.
+    #[inline(always)]
     pub fn to_owned(&self, alloc: Global) -> Result<OwnedFrame, AllocError>
         ensures { IfOk result (λ frame. owned frame ≡ borrowed self.now) }
     {
-        Ok(with_bytes!(self, bytes => Vec::from_slice(alloc, bytes)?))
+        Ok(with_bytes!(self, bytes => Bytes::copy_from_slice(alloc, bytes)?))
     }
 }

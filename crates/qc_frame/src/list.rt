@@ -52,6 +52,7 @@ impl FrameList {
 
     /// Appends a frame. PADDING frames that were counted are first written out as frames. After
     /// want of memory the list is as before.
+    #[inline(always)]
     pub fn push(&mut self, frame: OwnedFrame) -> Result<(), AllocError>
         ensures ok { OnOk result (self.new ≡ self.old ++ owned frame ∷ []) }
         ensures err { OnErr result (self.new ≡ self.old) }

@@ -95,6 +95,7 @@ impl Frame<'_> {
 
 impl FrameList {
     /// How many bytes the frames' spelling has, or 2^64 - 1 where there are more.
+    #[inline(always)]
     #[tactic(auto, using(crate::proofs::Shortest::padded_len))]
     pub fn spelled_len(&self) -> usize
         ensures { result ≡ min (length (frames_spelling self.now)) 18446744073709551615 }

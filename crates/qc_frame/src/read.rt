@@ -291,6 +291,7 @@ fn read_body(has_length: bool, bytes: &[u8]) -> Result<(&[u8], &[u8]), FrameFaul
     Ok((body, rest))
 }
 
+#[inline(always)]
 #[tactic(auto, unfolding(crate::specs::FrameReading::stream_at))]
 fn read_stream(
     ty: u64,

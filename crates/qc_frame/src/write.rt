@@ -16,6 +16,7 @@ use qc_base::{
 use std::alloc::AllocError;
 
 /// Appends the frame's spelling. After want of memory `out` is as before.
+#[inline(always)]
 pub fn put_frame(out: &mut Vec<u8>, frame: &Frame<'_>) -> Result<(), AllocError>
     ensures ok { OnOk result (out.new.items ≡ out.old.items ++ spelling (borrowed frame.now)) }
     ensures err { OnErr result (out.new.items ≡ out.old.items) }
@@ -117,6 +118,7 @@ fn put_last_fields(out: &mut Vec<u8>, frame: &Frame<'_>) -> Result<(), AllocErro
     }
 }
 
+#[inline(always)]
 fn put_blob(out: &mut Vec<u8>, bytes: &[u8]) -> Result<(), AllocError>
     ensures ok { OnOk result (out.new.items ≡ out.old.items ++ (blob bytes.now)) }
     ensures kept { take (length out.old.items) out.new.items ≡ out.old.items }

@@ -17,7 +17,7 @@ pub use encode::PartialEncode;
 pub use finish::{InitialPacket, Packet, leading_byte};
 pub use fixed_bit::fixed_bit_is_not_read;
 pub use header::{Header, InitialHeader};
-pub use partial_decode::PartialDecode;
+pub use partial_decode::{PartialDecode, ShortPiece};
 pub use protected::{PacketDecodeError, ProtectedHeader};
 pub use round_trip::{header_comes_back, header_is_read};
 pub use short::{ShortHeader, finish_short};

@@ -6,11 +6,13 @@ ghost use Rattle.qc_base.specs.Grammar.{IsBytes};
 ghost use Rattle.qc_header.specs.HeaderGrammar.{PieceAt, NoPieceAt};
 ghost use Rattle.qc_header.specs.HeaderReading.{piece_at, IsFollowed};
 ghost use Rattle.qc_header.specs.Piece.{Piece, space_of, is_0rtt_header};
+ghost use Rattle.qc_header.specs.Unprotected.{short_packet};
 
+use crate::finish::leading_byte;
 use crate::protected::{PacketDecodeError, ProtectedHeader};
 use crate::read::{Bounds, read_bounds};
 use bytes::BytesMut;
-use qc_base::{LongType, SpaceId};
+use qc_base::{ConnectionId, LongType, SpaceId};
 use std::marker::Model;
 
 /// A packet whose header is read as far as header protection lets it.
@@ -30,6 +32,39 @@ impl Model for PartialDecode {
     ghost view = { λ p. record { header = p.header; pn_offset = p.pn_offset; bytes = p.bytes.items } };
 
     ghost invariant = { λ p. IsWithin p.header p.pn_offset p.bytes.items };
+}
+
+/// A 1-RTT packet whose header is read as far as header protection lets it.
+#[derive(Debug, Drop)]
+pub struct ShortPiece {
+    /// The id that it was sent to.
+    pub dst_cid: ConnectionId,
+    /// Where its number begins.
+    pub pn_offset: usize,
+    /// All of its bytes.
+    pub bytes: BytesMut,
+}
+
+/// How many bytes stand before the number of a 1-RTT packet at most: the first one, and 20 of an id.
+const MOST_BEFORE_NUMBER: usize = 21;
+
+/// The id of a short header with this spin bit, of which at most so many bytes stand before the number.
+fn short_dst_cid(header: &ProtectedHeader, spins: bool, pn_offset: usize) -> Option<ConnectionId>
+    ensures short { IfSome result (λ id. header.now ≡ ProtectedHeader.Short spins id) }
+    ensures near { IfSome result (λ id. pn_offset ≤ 21) }
+{
+    match header {
+        ProtectedHeader::Short { spin, dst_cid } => {
+            if *spin == spins && pn_offset <= MOST_BEFORE_NUMBER {
+                return Some(*dst_cid);
+            }
+            None
+        }
+        ProtectedHeader::Initial { .. }
+        | ProtectedHeader::Long { .. }
+        | ProtectedHeader::Retry { .. }
+        | ProtectedHeader::VersionNegotiate { .. } => None,
+    }
 }
 
 /// The first packet of a datagram, and what is behind it.
@@ -153,6 +188,30 @@ impl PartialDecode {
             | ProtectedHeader::Retry { .. }
             | ProtectedHeader::Short { .. }
             | ProtectedHeader::VersionNegotiate { .. } => false,
+        }
+    }
+
+    /// The packet as a 1-RTT packet, where it has a short header, as [`PartialDecode::new`] reads one; else the packet as it is.
+    pub fn into_short(self) -> Result<ShortPiece, PartialDecode>
+        ensures short { IfOk result (λ s. self ≡ short_packet s.dst_cid s.pn_offset s.bytes.items) }
+        ensures near { IfOk result (λ s. s.pn_offset ≤ 21) }
+        ensures other { IfErr result (λ p. p ≡ self) }
+    {
+        let spins = leading_byte(self.bytes.as_slice()) / 32 % 2 == 1;
+        match short_dst_cid(&self.header, spins, self.pn_offset) {
+            None => Err(self),
+            Some(dst_cid) => {
+                let PartialDecode {
+                    pn_offset,
+                    bytes,
+                    ..
+                } = self;
+                Ok(ShortPiece {
+                    dst_cid,
+                    pn_offset,
+                    bytes,
+                })
+            }
         }
     }
 

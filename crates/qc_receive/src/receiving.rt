@@ -3,6 +3,7 @@
 ghost use Rattle.std.specs.Prelude.{◌≡◌, ◌<◌, ◌≤◌, ◌++◌, ◌∷◌, [], true, false, not, length, Ok, OnOk, IfOk, IfSome, IfNone, IsErr, nat_le, ◌&&◌, None};
 ghost use Rattle.qc_receive.specs.Cutting.{Cuts, front_of, rest_of, others_of};
 ghost use Rattle.qc_receive.specs.Short.{short_in};
+ghost use Rattle.qc_header.specs.Piece.{space_of};
 ghost use Rattle.qc_state.specs.Receiving.{is_readable, is_taken, lets_in, has_first_ids, token_in_first, counted_after, heard_after, datagram_after, failed_after, opening_after, pieces_after, piece_after};
 ghost use Rattle.qc_state.specs.View.{ideal, held};
 ghost use Rattle.qc_state.specs.Life.{is_handshake};
@@ -11,7 +12,7 @@ ghost use Rattle.qc_state.specs.Paths.{same_address};
 ghost use Rattle.qc_state.specs.Setup.{is_first_awaited};
 
 use crate::opening::open_piece;
-use crate::short::{is_short, short_piece};
+use crate::short::{is_short, short_opened, short_piece};
 use crate::unnumbered::unnumbered;
 use bytes::{Bytes, BytesMut};
 use qc_admit::received;
@@ -143,6 +144,26 @@ fn opened<U: Suite>(
     }
 }
 
+/// One packet with a number, to an end that takes packets. Want of memory is the only refusal.
+fn numbered<U: Suite>(
+    core: &mut Core<U>,
+    alloc: Global,
+    did: &mut Dids,
+    coming: &Coming,
+    partial: PartialDecode,
+) -> Result<(), AllocError>
+    ensures { OnOk result ((held U.Random.stream core.new did.new) ≡ opening_after ⟦<U as Means>⟧.meaning coming.now (space_of partial.header) (opening_of ⟦<U as Means>⟧.meaning (ideal U.Random.stream core.old) partial) (held U.Random.stream core.old did.old)) }
+{
+    let space = partial.space();
+    match partial.into_short() {
+        Ok(short) => short_opened(core, alloc, did, coming, short),
+        Err(partial) => {
+            let opening = open_piece(core, partial)?;
+            opened(core, alloc, did, coming, space, opening)
+        }
+    }
+}
+
 /// One packet. Want of memory is the only refusal.
 #[tactic(auto, unfolding(qc_state::specs::Receiving::piece_after, qc_state::specs::Moves::move_to, qc_state::specs::Moves::deeds_move))]
 fn one_piece<U: Suite>(
@@ -160,14 +181,12 @@ fn one_piece<U: Suite>(
     }
     match space {
         None => unnumbered(core, alloc, did, coming.time, &partial),
-        Some(_) => {
-            let opening = open_piece(core, partial)?;
-            opened(core, alloc, did, coming, space, opening)
-        }
+        Some(_) => numbered(core, alloc, did, coming, partial),
     }
 }
 
 /// The packets of a datagram behind its first one. Want of memory is the only refusal.
+#[inline(always)]
 pub(crate) fn others<U: Suite>(
     core: &mut Core<U>,
     alloc: Global,

@@ -19,7 +19,7 @@ use qc_base::{ConnectionId, HeaderMask, SpaceId};
 use qc_core::Core;
 use qc_core::stopping::update_error;
 use qc_crypto::{KeyPair, PacketKey};
-use qc_header::{ShortHeader, finish_short, leading_byte};
+use qc_header::{ShortHeader, ShortPiece, finish_short, leading_byte};
 use qc_packet::{KeyRing, Which};
 use qc_state::{Coming, Dids, Form, Means, Suite, Verdict};
 use std::alloc::{AllocError, Global};
@@ -245,6 +245,22 @@ fn told_short<U: Suite>(
             )
         }
     }
+}
+
+/// A 1-RTT packet that came to an end which takes packets. Want of memory is the only refusal.
+pub(crate) fn short_opened<U: Suite>(
+    core: &mut Core<U>,
+    alloc: Global,
+    did: &mut Dids,
+    coming: &Coming,
+    short: ShortPiece,
+) -> Result<(), AllocError>
+    requires { short.pn_offset ≤ 21 }
+    ensures { OnOk result ((held U.Random.stream core.new did.new) ≡ opening_after ⟦<U as Means>⟧.meaning coming.now (Some Data) (opening_of ⟦<U as Means>⟧.meaning (ideal U.Random.stream core.old) (short_packet short.dst_cid short.pn_offset short.bytes.items)) (held U.Random.stream core.old did.old)) }
+{
+    let mut bytes = short.bytes;
+    let told = open_short(core, short.pn_offset, &mut bytes);
+    told_short(core, alloc, did, coming, told, bytes.as_slice())
 }
 
 /// A datagram's packet that is all of it, a 1-RTT packet whose id has this length. Want of memory is the only refusal.

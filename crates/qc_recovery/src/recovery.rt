@@ -455,6 +455,7 @@ impl Recovery {
         earlier(earlier(initial, handshake), self.data_probe(around, rtt))
     }
 
+    #[inline(always)]
     #[tactic(auto, unfolding(crate::specs::Steps::probe_line))]
     fn line(&self, now: Instant, around: &Around, rtt: &RttEstimator) -> Option<(Instant, SpaceId)>
         ensures { result ≡ probe_line now around.now rtt.now self.now }

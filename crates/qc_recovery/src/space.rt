@@ -105,6 +105,7 @@ impl SpaceRecovery {
     }
 
     /// A packet is in flight. After want of memory the space is as before.
+    #[inline(always)]
     #[tactic(auto, unfolding(crate::specs::Steps::space_sent))]
     pub(crate) fn sent(&mut self, number: u64, packet: SentPacket) -> Result<(), AllocError>
         requires { AllBelow number self.old.flight }

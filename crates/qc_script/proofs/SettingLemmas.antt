@@ -16,7 +16,7 @@ use Rattle.qc_script.specs.declared.settings.Setting.{Setting}
 use Rattle.qc_script.specs.declared.settings.Setting.TheVariants.{Random, Time, Local, Remote, First, Orig, Retry, Addr, Validated, Token, Secret, LimitInitial, LimitHandshake, LimitData, LimitFailures, Idle, Mtud, Gso, Sent, Clock}
 use Rattle.qc_script.specs.Fields.{hex_field, address_text, flag_text, IsAddress}
 use Rattle.qc_script.specs.Script.{random_text, side_line, input_line, IsRandom, IsSeed, IsId, IsRemote, IsFirst, IsValidated, IsToken, IsSecret, IsSent, IsClock}
-use Rattle.qc_script.specs.Items.{setting_line, IsSetting, IsNextSetting, IsSettingRead, IsOfTransport, IsTransportRead}
+use Rattle.qc_script.specs.Items.{setting_line, IsSetting, IsNextSetting, IsSettingRead, IsOfKeys, IsOfServer, IsOfTransport, IsReadOf}
 use Rattle.qc_script.proofs.FieldLemmas.{hex_field_injective, address_injective}
 use Rattle.qc_script.proofs.LineLemmas.{no_set}
 
@@ -280,6 +280,27 @@ unfolding setting_line
 no_gso field none side (Gso flag) h = none flag (field_same (codes "set gso ") field (flag_text flag) h.spelled)
 no_gso field none side x h = let e : 543 ≡ kind x = kind_of_text side (codes "set gso " ++ field) x h in omega (arith, e)
 
+-- a text with none of the words is the line of no setting of the keys' limits
+pub no_keys : (text : List ℕ) → ((rest : List ℕ) → text ≢ codes "set limit_initial " ++ rest) → ((rest : List ℕ) → text ≢ codes "set limit_handshake " ++ rest) → ((rest : List ℕ) → text ≢ codes "set limit_data " ++ rest) → ((rest : List ℕ) → text ≢ codes "set limit_failures " ++ rest)
+    → (side : Side) (x : Setting) → IsOfKeys x → IsNextSetting side text x → ⊥
+unfolding setting_line
+no_keys text initials handshakes datas failures side (LimitInitial packets) of h = initials (decimal packets) (words_and_field (codes "set limit_initial ") text (decimal packets) h.spelled)
+no_keys text initials handshakes datas failures side (LimitHandshake packets) of h = handshakes (decimal packets) (words_and_field (codes "set limit_handshake ") text (decimal packets) h.spelled)
+no_keys text initials handshakes datas failures side (LimitData packets) of h = datas (decimal packets) (words_and_field (codes "set limit_data ") text (decimal packets) h.spelled)
+no_keys text initials handshakes datas failures side (LimitFailures packets) of h = failures (decimal packets) (words_and_field (codes "set limit_failures ") text (decimal packets) h.spelled)
+no_keys text initials handshakes datas failures side _ of h = absurd of
+
+-- a text with none of the words is the line of no setting of servers alone
+pub no_server : (text : List ℕ) → ((rest : List ℕ) → text ≢ codes "set orig " ++ rest) → ((rest : List ℕ) → text ≢ codes "set retry " ++ rest) → ((rest : List ℕ) → text ≢ codes "set validated " ++ rest) → ((rest : List ℕ) → text ≢ codes "set sent " ++ rest) → ((rest : List ℕ) → text ≢ codes "set clock " ++ rest)
+    → (side : Side) (x : Setting) → IsOfServer x → IsNextSetting side text x → ⊥
+unfolding setting_line
+no_server text origs retries validateds sents clocks side (Orig id) of h = origs (hex_field id) (words_and_field (codes "set orig ") text (hex_field id) h.spelled)
+no_server text origs retries validateds sents clocks side (Retry id) of h = retries (hex_field id) (words_and_field (codes "set retry ") text (hex_field id) h.spelled)
+no_server text origs retries validateds sents clocks side (Validated validated) of h = validateds (flag_text validated) (words_and_field (codes "set validated ") text (flag_text validated) h.spelled)
+no_server text origs retries validateds sents clocks side (Sent count) of h = sents (decimal count) (words_and_field (codes "set sent ") text (decimal count) h.spelled)
+no_server text origs retries validateds sents clocks side (Clock seconds) of h = clocks (decimal seconds) (words_and_field (codes "set clock ") text (decimal seconds) h.spelled)
+no_server text origs retries validateds sents clocks side _ of h = absurd of
+
 -- a text with none of the words is the line of no setting of the transport
 pub no_transport : (text : List ℕ) → ((rest : List ℕ) → text ≢ codes "set idle " ++ rest) → ((rest : List ℕ) → text ≢ codes "set mtud " ++ rest) → ((rest : List ℕ) → text ≢ codes "set gso " ++ rest)
     → (side : Side) (x : Setting) → IsOfTransport x → IsNextSetting side text x → ⊥
@@ -289,49 +310,45 @@ no_transport text idles mtuds gsos side (Mtud allowed) of h = mtuds (flag_text a
 no_transport text idles mtuds gsos side (Gso allowed) of h = gsos (flag_text allowed) (words_and_field (codes "set gso ") text (flag_text allowed) h.spelled)
 no_transport text idles mtuds gsos side _ of h = absurd of
 
--- what is read of a text as a setting is one of the transport too, and what isn't is none
-pub transport_read : (side : Side) (text : List ℕ) (r : Option Setting) → IsSettingRead side text r → IsTransportRead side text r
-transport_read side text None h = λ x of n. h x n
-transport_read side text (Some x) h = h
+-- what is read of a text as a setting is one of some settings too, and what isn't is none
+pub read_of : (Of : Setting → Type 0) (side : Side) (text : List ℕ) (r : Option Setting) → IsSettingRead side text r → IsReadOf Of side text r
+read_of Of side text None h = λ x of n. h x n
+read_of Of side text (Some x) h = h
 
--- a text with none of the words is the line of no setting
-no_set_word : (text : List ℕ) → ((rest : List ℕ) → text ≢ codes "set random " ++ rest) → ((rest : List ℕ) → text ≢ codes "set time " ++ rest) → ((rest : List ℕ) → text ≢ codes "set local " ++ rest) → ((rest : List ℕ) → text ≢ codes "set remote " ++ rest)
+-- a text with none of the words, and of which the other readers read nothing, is the line of no setting
+no_set_word : (side : Side) (text : List ℕ) → ((rest : List ℕ) → text ≢ codes "set random " ++ rest) → ((rest : List ℕ) → text ≢ codes "set time " ++ rest) → ((rest : List ℕ) → text ≢ codes "set local " ++ rest) → ((rest : List ℕ) → text ≢ codes "set remote " ++ rest)
     → ((rest : List ℕ) → text ≢ codes "set first " ++ rest) → ((rest : List ℕ) → text ≢ codes "set addr " ++ rest) → ((rest : List ℕ) → text ≢ codes "set token " ++ rest) → ((rest : List ℕ) → text ≢ codes "set secret " ++ rest)
-    → ((rest : List ℕ) → text ≢ codes "set limit_initial " ++ rest) → ((rest : List ℕ) → text ≢ codes "set limit_handshake " ++ rest) → ((rest : List ℕ) → text ≢ codes "set limit_data " ++ rest) → ((rest : List ℕ) → text ≢ codes "set limit_failures " ++ rest)
-    → ((rest : List ℕ) → text ≢ codes "set orig " ++ rest) → ((rest : List ℕ) → text ≢ codes "set retry " ++ rest) → ((rest : List ℕ) → text ≢ codes "set validated " ++ rest) → ((rest : List ℕ) → text ≢ codes "set sent " ++ rest)
-    → ((rest : List ℕ) → text ≢ codes "set clock " ++ rest) → ((side : Side) (x : Setting) → IsOfTransport x → IsNextSetting side text x → ⊥)
-    → (side : Side) (x : Setting) → IsNextSetting side text x → ⊥
+    → IsReadOf IsOfKeys side text None → IsReadOf IsOfServer side text None → IsReadOf IsOfTransport side text None
+    → (x : Setting) → IsNextSetting side text x → ⊥
 unfolding setting_line
-no_set_word text randoms times locals remotes firsts addrs tokens secrets initials handshakes datas failures origs retries validateds sents clocks transports side (Random words) h = randoms (random_text words) (words_and_field (codes "set random ") text (random_text words) h.spelled)
-no_set_word text randoms times locals remotes firsts addrs tokens secrets initials handshakes datas failures origs retries validateds sents clocks transports side (Time now) h = times (decimal now) (words_and_field (codes "set time ") text (decimal now) h.spelled)
-no_set_word text randoms times locals remotes firsts addrs tokens secrets initials handshakes datas failures origs retries validateds sents clocks transports side (Local id) h = locals (hex_field id) (words_and_field (codes "set local ") text (hex_field id) h.spelled)
-no_set_word text randoms times locals remotes firsts addrs tokens secrets initials handshakes datas failures origs retries validateds sents clocks transports side (Remote id) h = remotes (hex_field id) (words_and_field (codes "set remote ") text (hex_field id) h.spelled)
-no_set_word text randoms times locals remotes firsts addrs tokens secrets initials handshakes datas failures origs retries validateds sents clocks transports side (First id) h = firsts (hex_field id) (words_and_field (codes "set first ") text (hex_field id) h.spelled)
-no_set_word text randoms times locals remotes firsts addrs tokens secrets initials handshakes datas failures origs retries validateds sents clocks transports side (Orig id) h = origs (hex_field id) (words_and_field (codes "set orig ") text (hex_field id) h.spelled)
-no_set_word text randoms times locals remotes firsts addrs tokens secrets initials handshakes datas failures origs retries validateds sents clocks transports side (Retry id) h = retries (hex_field id) (words_and_field (codes "set retry ") text (hex_field id) h.spelled)
-no_set_word text randoms times locals remotes firsts addrs tokens secrets initials handshakes datas failures origs retries validateds sents clocks transports side (Addr address) h = addrs (address_text address) (words_and_field (codes "set addr ") text (address_text address) h.spelled)
-no_set_word text randoms times locals remotes firsts addrs tokens secrets initials handshakes datas failures origs retries validateds sents clocks transports side (Validated validated) h = validateds (flag_text validated) (words_and_field (codes "set validated ") text (flag_text validated) h.spelled)
-no_set_word text randoms times locals remotes firsts addrs tokens secrets initials handshakes datas failures origs retries validateds sents clocks transports side (Token bytes) h = tokens (hex_field bytes) (words_and_field (codes "set token ") text (hex_field bytes) h.spelled)
-no_set_word text randoms times locals remotes firsts addrs tokens secrets initials handshakes datas failures origs retries validateds sents clocks transports side (Secret bytes) h = secrets (hex_field bytes) (words_and_field (codes "set secret ") text (hex_field bytes) h.spelled)
-no_set_word text randoms times locals remotes firsts addrs tokens secrets initials handshakes datas failures origs retries validateds sents clocks transports side (LimitInitial packets) h = initials (decimal packets) (words_and_field (codes "set limit_initial ") text (decimal packets) h.spelled)
-no_set_word text randoms times locals remotes firsts addrs tokens secrets initials handshakes datas failures origs retries validateds sents clocks transports side (LimitHandshake packets) h = handshakes (decimal packets) (words_and_field (codes "set limit_handshake ") text (decimal packets) h.spelled)
-no_set_word text randoms times locals remotes firsts addrs tokens secrets initials handshakes datas failures origs retries validateds sents clocks transports side (LimitData packets) h = datas (decimal packets) (words_and_field (codes "set limit_data ") text (decimal packets) h.spelled)
-no_set_word text randoms times locals remotes firsts addrs tokens secrets initials handshakes datas failures origs retries validateds sents clocks transports side (LimitFailures packets) h = failures (decimal packets) (words_and_field (codes "set limit_failures ") text (decimal packets) h.spelled)
-no_set_word text randoms times locals remotes firsts addrs tokens secrets initials handshakes datas failures origs retries validateds sents clocks transports side (Idle limit) h = transports side (Idle limit) tt h
-no_set_word text randoms times locals remotes firsts addrs tokens secrets initials handshakes datas failures origs retries validateds sents clocks transports side (Mtud allowed) h = transports side (Mtud allowed) tt h
-no_set_word text randoms times locals remotes firsts addrs tokens secrets initials handshakes datas failures origs retries validateds sents clocks transports side (Gso allowed) h = transports side (Gso allowed) tt h
-no_set_word text randoms times locals remotes firsts addrs tokens secrets initials handshakes datas failures origs retries validateds sents clocks transports side (Sent count) h = sents (decimal count) (words_and_field (codes "set sent ") text (decimal count) h.spelled)
-no_set_word text randoms times locals remotes firsts addrs tokens secrets initials handshakes datas failures origs retries validateds sents clocks transports side (Clock seconds) h = clocks (decimal seconds) (words_and_field (codes "set clock ") text (decimal seconds) h.spelled)
+no_set_word side text randoms times locals remotes firsts addrs tokens secrets keys servers transports (Random words) h = randoms (random_text words) (words_and_field (codes "set random ") text (random_text words) h.spelled)
+no_set_word side text randoms times locals remotes firsts addrs tokens secrets keys servers transports (Time now) h = times (decimal now) (words_and_field (codes "set time ") text (decimal now) h.spelled)
+no_set_word side text randoms times locals remotes firsts addrs tokens secrets keys servers transports (Local id) h = locals (hex_field id) (words_and_field (codes "set local ") text (hex_field id) h.spelled)
+no_set_word side text randoms times locals remotes firsts addrs tokens secrets keys servers transports (Remote id) h = remotes (hex_field id) (words_and_field (codes "set remote ") text (hex_field id) h.spelled)
+no_set_word side text randoms times locals remotes firsts addrs tokens secrets keys servers transports (First id) h = firsts (hex_field id) (words_and_field (codes "set first ") text (hex_field id) h.spelled)
+no_set_word side text randoms times locals remotes firsts addrs tokens secrets keys servers transports (Addr address) h = addrs (address_text address) (words_and_field (codes "set addr ") text (address_text address) h.spelled)
+no_set_word side text randoms times locals remotes firsts addrs tokens secrets keys servers transports (Token bytes) h = tokens (hex_field bytes) (words_and_field (codes "set token ") text (hex_field bytes) h.spelled)
+no_set_word side text randoms times locals remotes firsts addrs tokens secrets keys servers transports (Secret bytes) h = secrets (hex_field bytes) (words_and_field (codes "set secret ") text (hex_field bytes) h.spelled)
+no_set_word side text randoms times locals remotes firsts addrs tokens secrets keys servers transports (LimitInitial packets) h = keys (LimitInitial packets) tt h
+no_set_word side text randoms times locals remotes firsts addrs tokens secrets keys servers transports (LimitHandshake packets) h = keys (LimitHandshake packets) tt h
+no_set_word side text randoms times locals remotes firsts addrs tokens secrets keys servers transports (LimitData packets) h = keys (LimitData packets) tt h
+no_set_word side text randoms times locals remotes firsts addrs tokens secrets keys servers transports (LimitFailures packets) h = keys (LimitFailures packets) tt h
+no_set_word side text randoms times locals remotes firsts addrs tokens secrets keys servers transports (Orig id) h = servers (Orig id) tt h
+no_set_word side text randoms times locals remotes firsts addrs tokens secrets keys servers transports (Retry id) h = servers (Retry id) tt h
+no_set_word side text randoms times locals remotes firsts addrs tokens secrets keys servers transports (Validated validated) h = servers (Validated validated) tt h
+no_set_word side text randoms times locals remotes firsts addrs tokens secrets keys servers transports (Sent count) h = servers (Sent count) tt h
+no_set_word side text randoms times locals remotes firsts addrs tokens secrets keys servers transports (Clock seconds) h = servers (Clock seconds) tt h
+no_set_word side text randoms times locals remotes firsts addrs tokens secrets keys servers transports (Idle limit) h = transports (Idle limit) tt h
+no_set_word side text randoms times locals remotes firsts addrs tokens secrets keys servers transports (Mtud allowed) h = transports (Mtud allowed) tt h
+no_set_word side text randoms times locals remotes firsts addrs tokens secrets keys servers transports (Gso allowed) h = transports (Gso allowed) tt h
 
 -- behind the other words the reader of the transport's settings reads each setting
-pub last_read : (text : List ℕ) → ((rest : List ℕ) → text ≢ codes "set random " ++ rest) → ((rest : List ℕ) → text ≢ codes "set time " ++ rest) → ((rest : List ℕ) → text ≢ codes "set local " ++ rest) → ((rest : List ℕ) → text ≢ codes "set remote " ++ rest)
+pub last_read : (side : Side) (text : List ℕ) → ((rest : List ℕ) → text ≢ codes "set random " ++ rest) → ((rest : List ℕ) → text ≢ codes "set time " ++ rest) → ((rest : List ℕ) → text ≢ codes "set local " ++ rest) → ((rest : List ℕ) → text ≢ codes "set remote " ++ rest)
     → ((rest : List ℕ) → text ≢ codes "set first " ++ rest) → ((rest : List ℕ) → text ≢ codes "set addr " ++ rest) → ((rest : List ℕ) → text ≢ codes "set token " ++ rest) → ((rest : List ℕ) → text ≢ codes "set secret " ++ rest)
-    → ((rest : List ℕ) → text ≢ codes "set limit_initial " ++ rest) → ((rest : List ℕ) → text ≢ codes "set limit_handshake " ++ rest) → ((rest : List ℕ) → text ≢ codes "set limit_data " ++ rest) → ((rest : List ℕ) → text ≢ codes "set limit_failures " ++ rest)
-    → ((rest : List ℕ) → text ≢ codes "set orig " ++ rest) → ((rest : List ℕ) → text ≢ codes "set retry " ++ rest) → ((rest : List ℕ) → text ≢ codes "set validated " ++ rest) → ((rest : List ℕ) → text ≢ codes "set sent " ++ rest)
-    → ((rest : List ℕ) → text ≢ codes "set clock " ++ rest) → (r : Option Setting) → ((side : Side) → IsTransportRead side text r)
-    → (side : Side) → IsSettingRead side text r
-last_read text randoms times locals remotes firsts addrs tokens secrets initials handshakes datas failures origs retries validateds sents clocks None h side = no_set_word text randoms times locals remotes firsts addrs tokens secrets initials handshakes datas failures origs retries validateds sents clocks h side
-last_read text randoms times locals remotes firsts addrs tokens secrets initials handshakes datas failures origs retries validateds sents clocks (Some x) h side = h side
+    → IsReadOf IsOfKeys side text None → IsReadOf IsOfServer side text None → (r : Option Setting) → IsReadOf IsOfTransport side text r
+    → IsSettingRead side text r
+last_read side text randoms times locals remotes firsts addrs tokens secrets keys servers None h = no_set_word side text randoms times locals remotes firsts addrs tokens secrets keys servers h
+last_read side text randoms times locals remotes firsts addrs tokens secrets keys servers (Some x) h = h
 
 -- ---- lines and settings
 

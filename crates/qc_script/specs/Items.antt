@@ -67,6 +67,23 @@ abbrev pub IsSettingRead : Side → List ℕ → Option Setting → Type 0
 IsSettingRead side text None = (setting : Setting) → IsNextSetting side text setting → ⊥
 IsSettingRead side text (Some setting) = IsNextSetting side text setting
 
+-- a setting of the keys' limits
+abbrev pub IsOfKeys : Setting → Type 0
+IsOfKeys (LimitInitial packets) = Unit {0}
+IsOfKeys (LimitHandshake packets) = Unit {0}
+IsOfKeys (LimitData packets) = Unit {0}
+IsOfKeys (LimitFailures packets) = Unit {0}
+IsOfKeys _ = ⊥
+
+-- a setting of servers alone, but for the id of the client's first packets
+abbrev pub IsOfServer : Setting → Type 0
+IsOfServer (Orig id) = Unit {0}
+IsOfServer (Retry id) = Unit {0}
+IsOfServer (Validated validated) = Unit {0}
+IsOfServer (Sent count) = Unit {0}
+IsOfServer (Clock seconds) = Unit {0}
+IsOfServer _ = ⊥
+
 -- a setting of the transport's configuration
 abbrev pub IsOfTransport : Setting → Type 0
 IsOfTransport (Idle limit) = Unit {0}
@@ -74,10 +91,10 @@ IsOfTransport (Mtud allowed) = Unit {0}
 IsOfTransport (Gso allowed) = Unit {0}
 IsOfTransport _ = ⊥
 
--- what a reader of such settings may find of this text: its setting, or nothing where it and LF are the line of none of them
-abbrev pub IsTransportRead : Side → List ℕ → Option Setting → Type 0
-IsTransportRead side text None = (setting : Setting) → IsOfTransport setting → IsNextSetting side text setting → ⊥
-IsTransportRead side text (Some setting) = IsNextSetting side text setting
+-- what a reader of some settings may find of this text: its setting, or nothing where it and LF are the line of none of them
+abbrev pub IsReadOf : (Of : Setting → Type 0) → Side → List ℕ → Option Setting → Type 0
+IsReadOf Of side text None = (setting : Setting) → Of setting → IsNextSetting side text setting → ⊥
+IsReadOf Of side text (Some setting) = IsNextSetting side text setting
 
 -- the place of a setting's line in the order of set lines; the side's line has place 0
 abbrev pub setting_place : Setting → ℕ

@@ -147,11 +147,12 @@ abbrev pub IsValidated : Side → Bool → Type 0
 IsValidated Client validated = ⊥
 IsValidated Server validated = Unit {0}
 
--- only a server is told how many tokens it sends, in 32 bits, and the time of its clock in seconds
+-- only a server is told how many tokens it sends, in 32 bits
 abbrev pub IsSent : Side → ℕ → Type 0
 IsSent Client count = ⊥
 IsSent Server count = count < 2 ^ 32
 
+-- only a server is told the time of its clock, in seconds
 abbrev pub IsClock : Side → ℕ → Type 0
 IsClock Client seconds = ⊥
 IsClock Server seconds = seconds < 2 ^ 64

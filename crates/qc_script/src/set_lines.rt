@@ -1,7 +1,7 @@
 //! The set lines.
 
 ghost use Rattle.qc_script.specs.Fields.{hex_field};
-ghost use Rattle.qc_script.specs.Items.{IsSettingRead, IsTransportRead};
+ghost use Rattle.qc_script.specs.Items.{IsOfKeys, IsOfServer, IsOfTransport, IsReadOf, IsSettingRead};
 ghost use Rattle.qc_script.specs.Script.{random_text, IsRandom, IsSeed, IsId, IsSecret, side_line};
 ghost use Rattle.qc_script.specs.declared.settings.RandomWords.{RandomWords};
 ghost use Rattle.std.specs.Prelude.{◌≡◌, ◌≢◌, ℕ, List, ◌++◌, codes, IfOk, MatchOption};
@@ -313,9 +313,50 @@ fn gso_line(field: &[u8]) -> Option<Setting>
     }
 }
 
+/// What this line, LF excluded, sets of the keys' limits.
+fn keys_line(text: &[u8]) -> Option<Setting>
+    ensures { (side : Side) → IsReadOf IsOfKeys side text.now result }
+{
+    if let Some(digits) = after_word(text, b"set limit_initial ") {
+        return limit_initial_line(digits);
+    }
+    if let Some(digits) = after_word(text, b"set limit_handshake ") {
+        return limit_handshake_line(digits);
+    }
+    if let Some(digits) = after_word(text, b"set limit_data ") {
+        return limit_data_line(digits);
+    }
+    match after_word(text, b"set limit_failures ") {
+        Some(digits) => limit_failures_line(digits),
+        None => None,
+    }
+}
+
+/// What this line, LF excluded, sets of servers alone.
+fn server_line(alloc: Global, side: Side, text: &[u8]) -> Result<Option<Setting>, AllocError>
+    ensures { IfOk result (IsReadOf IsOfServer side text.now) }
+{
+    if let Some(field) = after_word(text, b"set orig ") {
+        return orig_line(alloc, side, field);
+    }
+    if let Some(field) = after_word(text, b"set retry ") {
+        return retry_line(alloc, side, field);
+    }
+    if let Some(field) = after_word(text, b"set validated ") {
+        return Ok(validated_line(side, field));
+    }
+    if let Some(digits) = after_word(text, b"set sent ") {
+        return Ok(sent_line(side, digits));
+    }
+    match after_word(text, b"set clock ") {
+        Some(digits) => Ok(clock_line(side, digits)),
+        None => Ok(None),
+    }
+}
+
 /// What this line, LF excluded, sets of the transport's configuration.
 fn transport_line(text: &[u8]) -> Option<Setting>
-    ensures { (side : Side) → IsTransportRead side text.now result }
+    ensures { (side : Side) → IsReadOf IsOfTransport side text.now result }
 {
     if let Some(digits) = after_word(text, b"set idle ") {
         return idle_line(digits);
@@ -357,32 +398,11 @@ pub fn read_setting(alloc: Global, side: Side, text: &[u8]) -> Result<Option<Set
     if let Some(field) = after_word(text, b"set secret ") {
         return secret_line(alloc, field);
     }
-    if let Some(digits) = after_word(text, b"set limit_initial ") {
-        return Ok(limit_initial_line(digits));
+    if let Some(setting) = keys_line(text) {
+        return Ok(Some(setting));
     }
-    if let Some(digits) = after_word(text, b"set limit_handshake ") {
-        return Ok(limit_handshake_line(digits));
-    }
-    if let Some(digits) = after_word(text, b"set limit_data ") {
-        return Ok(limit_data_line(digits));
-    }
-    if let Some(digits) = after_word(text, b"set limit_failures ") {
-        return Ok(limit_failures_line(digits));
-    }
-    if let Some(field) = after_word(text, b"set orig ") {
-        return orig_line(alloc, side, field);
-    }
-    if let Some(field) = after_word(text, b"set retry ") {
-        return retry_line(alloc, side, field);
-    }
-    if let Some(field) = after_word(text, b"set validated ") {
-        return Ok(validated_line(side, field));
-    }
-    if let Some(digits) = after_word(text, b"set sent ") {
-        return Ok(sent_line(side, digits));
-    }
-    if let Some(digits) = after_word(text, b"set clock ") {
-        return Ok(clock_line(side, digits));
+    if let Some(setting) = server_line(alloc, side, text)? {
+        return Ok(Some(setting));
     }
     Ok(transport_line(text))
 }

@@ -3,10 +3,13 @@ use Rattle.std.proofs.Common.{◌≡◌, ℕ, ◌+◌, ◌-◌, ◌≤◌, List,
 use Rattle.std.specs.Result.{MatchResult}
 use Rattle.std.specs.Prelude.{IfOk, IfSome, Result, Ok, Err, option_map}
 use Rattle.rand_core.specs.Stream.{Stream}
+use Rattle.qc_base.specs.PacketNumber.{number_len, number_of}
+use Rattle.qc_base.specs.declared.side.SpaceId.TheVariants.{«Data»}
 use Rattle.qc_base.specs.Varint.{varint, spelled, one, two, four, eight}
 use Rattle.qc_frame.specs.Frame.{FrameValue}
 use Rattle.qc_header.specs.declared.header.Header.{Header}
-use Rattle.qc_header.specs.HeaderSpelling.{header_spelling, initial_spelling, short_spelling}
+use Rattle.qc_header.specs.HeaderSpelling.{header_most, header_spelling, initial_spelling, short_spelling}
+use Rattle.qc_header.proofs.WrittenHeaders.{length-number_bytes}
 use Rattle.qc_frame.specs.FrameSpelling.{frames_spelling}
 use Rattle.qc_frame.specs.declared.frames.FrameOf.TheVariants.{Padding}
 use Rattle.qc_packet.specs.Building.{kill_of, min_size_of, padded_size}
@@ -72,14 +75,44 @@ module _ {t : Types} where
   spelled_len s Early = omega arith
   spelled_len s OneRtt = omega arith
 
+  -- the header of a 1-RTT packet, by its parts
+  pub short_bare : (s : View t) (form : Form) (cid number n : ℕ) → form ≡ OneRtt → cid ≡ length s.paths.current.remote_cid →
+      number ≡ number_len (number_of (next_number s.numbers (number_space form)) (acked_number s.numbers (number_space form))) → n ≡ 1 + cid + number →
+      n ≡ length (header_spelling (header_with s form false []) 0)
+  unfolding header_spelling short_spelling
+  short_bare s form cid number n is_form is_cid is_number is_n =
+      let same : number ≡ number_len (number_of (next_number s.numbers «Data») (acked_number s.numbers «Data»)) =
+      is_number ∙ ap (λ (f : Form). number_len (number_of (next_number s.numbers (number_space f)) (acked_number s.numbers (number_space f)))) is_form in
+      let short : length (header_spelling (header_with s OneRtt false []) 0) ≡ 1 + length s.paths.current.remote_cid + number_len (number_of (next_number s.numbers «Data») (acked_number s.numbers «Data»)) =
+      simp length-append (omega (arith, length-number_bytes (number_of (next_number s.numbers «Data») (acked_number s.numbers «Data»)))) in
+      let whole : n ≡ length (header_spelling (header_with s OneRtt false []) 0) = omega (arith, is_n, is_cid, same, short) in
+      whole ∙ ap (λ (f : Form). length (header_spelling (header_with s f false []) 0)) (sym is_form)
+
+  -- that of another one, by what was written
+  pub written_bare : (s : View t) (form : Form) (h : Header) (none : List ℕ) (n : ℕ) → none ≡ [] → h ≡ header_with s form false none → n ≡ length (header_spelling h 0) →
+      n ≡ length (header_spelling (header_with s form false []) 0)
+  written_bare s form h none n is_none is_h is_n =
+      is_n ∙ ap (λ (x : Header). length (header_spelling x 0)) (is_h ∙ ap (λ (x : List ℕ). header_with s form false x) is_none)
+
+  bare_most : (s : View t) (form : Form) → header_most (header_with s form false []) ≤ 61
+  bare_most s Initial = omega arith
+  bare_most s Handshake = omega arith
+  bare_most s Early = omega arith
+  bare_most s OneRtt = omega arith
+
+  -- which is short
+  pub written_most : (s : View t) (form : Form) (h : Header) (none : List ℕ) (n : ℕ) → none ≡ [] → h ≡ header_with s form false none → n ≤ header_most h → n ≤ 61
+  written_most s form h none n is_none is_h most =
+      let same : header_most h ≡ header_most (header_with s form false []) = ap (λ (x : Header). header_most x) (is_h ∙ ap (λ (x : List ℕ). header_with s form false x) is_none) in
+      omega (arith, same, most, bare_most s form)
+
   -- the room for frames, by the length of the header without a token
-  pub room_is : (left : ℕ) (s : View t) (form : Form) (h : Header) (token none : List ℕ) (bare room more n : ℕ) → none ≡ [] → h ≡ header_with s form false none → bare ≡ length (header_spelling h 0) → room ≡ left - 16 - bare →
+  pub room_is : (left : ℕ) (s : View t) (form : Form) (token : List ℕ) (bare room more n : ℕ) → bare ≡ length (header_spelling (header_with s form false []) 0) → room ≡ left - 16 - bare →
       token ≡ s.setup.initial_token → more ≡ token_bytes form token → n ≡ room - more → n ≡ room_of left s form
   unfolding room_of
-  room_is left s form h token none bare room more n is_none is_h is_bare is_room is_token is_more is_n =
-      let first : bare ≡ length (header_spelling (header_with s form false []) 0) = is_bare ∙ ap (λ (x : Header). length (header_spelling x 0)) (is_h ∙ ap (λ (x : List ℕ). header_with s form false x) is_none) in
+  room_is left s form token bare room more n is_bare is_room is_token is_more is_n =
       let rest : more ≡ token_bytes form s.setup.initial_token = is_more ∙ ap (λ (x : List ℕ). token_bytes form x) is_token in
-      omega (arith, spelled_len s form, first, is_room, rest, is_n)
+      omega (arith, spelled_len s form, is_bare, is_room, rest, is_n)
 
   -- the packet can be begun, where its key may seal one more
   begins_with : (capacity : ℕ) (s : View t) (form : Form) (known : Option KeyUse) → capacity ≤ 16383 → reaches_limit 0 known ≡ false → next_number s.numbers (number_space form) < 2 ^ 62 - 1 → next_number s.numbers (number_space form) - acked_number s.numbers (number_space form) < 2 ^ 31 → 25 ≤ room_of capacity s form →

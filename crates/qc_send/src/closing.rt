@@ -5,6 +5,7 @@ ghost use Rattle.qc_base.specs.declared.side.SpaceId.TheVariants.{Initial};
 ghost use Rattle.qc_frame.specs.Frame.{owned};
 ghost use Rattle.qc_state.specs.Sending.{told_code, told_type, told_application_code, application_close, closing_frame, IsKeptReason, close_frame};
 
+use bytes::Bytes;
 use qc_base::{SpaceId, TransportErrorCode, VarInt};
 use qc_core::Core;
 use qc_frame::{FrameOf, OwnedFrame, fit_application_reason};
@@ -47,13 +48,13 @@ fn application_code_told(code: VarInt) -> VarInt
 }
 
 /// A close with this code and type of frame, without a reason in words.
-fn close_frame(alloc: Global, error_code: TransportErrorCode, frame_type: Option<u64>) -> OwnedFrame
+fn close_frame(error_code: TransportErrorCode, frame_type: Option<u64>) -> OwnedFrame
     ensures { owned result ≡ close_frame error_code frame_type }
 {
     FrameOf::ConnectionClose {
         error_code,
         frame_type,
-        reason: Vec::new(alloc),
+        reason: Bytes::new(),
     }
 }
 
@@ -69,11 +70,11 @@ fn application_close(
 {
     match space {
         SpaceId::Initial | SpaceId::Handshake => {
-            Ok(close_frame(alloc, TransportErrorCode::APPLICATION_ERROR, None))
+            Ok(close_frame(TransportErrorCode::APPLICATION_ERROR, None))
         }
         SpaceId::Data => {
             let error_code = application_code_told(error_code);
-            let reason = Vec::from_slice(alloc, kept)?;
+            let reason = Bytes::copy_from_slice(alloc, kept)?;
             Ok(FrameOf::ApplicationClose { error_code, reason })
         }
     }
@@ -104,13 +105,13 @@ pub(crate) fn closing_frame<U: Suite>(
     ensures { IfOk result (λ frame. owned frame ≡ closing_frame space kept.now core.now.life) }
 {
     if !core.life.is_closed() {
-        return Ok(close_frame(alloc, TransportErrorCode::NO_ERROR, None));
+        return Ok(close_frame(TransportErrorCode::NO_ERROR, None));
     }
     match &core.life.close {
-        None => Ok(close_frame(alloc, TransportErrorCode::NO_ERROR, None)),
+        None => Ok(close_frame(TransportErrorCode::NO_ERROR, None)),
         Some(Close::Connection(close)) => {
             let code = code_told(close.error_code);
-            Ok(close_frame(alloc, code, type_told(close.frame_type)))
+            Ok(close_frame(code, type_told(close.frame_type)))
         }
         Some(Close::Application(close)) => {
             application_close(alloc, space, close.error_code, kept)

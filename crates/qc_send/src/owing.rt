@@ -44,6 +44,7 @@ fn is_silent<U: Suite>(core: &Core<U>) -> bool
 
 /// Whether the space owes something in this transmit: it has keys, and something waits in it; behind a packet of its own, a frame that
 /// elicits an acknowledgement; in a transmit that began with a close owed, where it sealed no packet yet.
+#[inline(always)]
 #[tactic(auto, unfolding(qc_state::specs::Sending::owes_in))]
 pub(crate) fn owes_in<U: Suite>(core: &Core<U>, batch: &Batch, space: SpaceId) -> bool
     ensures { result ≡ owes_in batch.now (ideal U.Random.stream core.now) space }

@@ -39,7 +39,7 @@ pub(crate) fn plain_size(left: usize, room: usize, frames: &FrameList) -> usize
 }
 
 /// How many bytes the number of the next packet has, which is of this form.
-fn number_len<U: Suite>(core: &Core<U>, form: Form) -> usize
+pub(crate) fn number_len<U: Suite>(core: &Core<U>, form: Form) -> usize
     ensures value { result ≡ number_len (number_of (next_number core.now.numbers (number_space form)) (acked_number core.now.numbers (number_space form))) }
     ensures most { result ≤ 4 }
 {
@@ -48,7 +48,7 @@ fn number_len<U: Suite>(core: &Core<U>, form: Form) -> usize
 }
 
 /// How many bytes the id has that packets carry.
-fn cid_len<U: Suite>(core: &Core<U>) -> usize
+pub(crate) fn cid_len<U: Suite>(core: &Core<U>) -> usize
     ensures value { result ≡ length core.now.paths.current.remote_cid }
     ensures most { result ≤ 20 }
 {

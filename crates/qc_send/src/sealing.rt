@@ -1,6 +1,6 @@
 //! One packet: how it is begun, its header, and its bytes; and what a transmit does once behind its packets.
 
-ghost use Rattle.std.specs.Prelude.{◌≡◌, ◌+◌, ◌-◌, ◌<◌, ◌≤◌, ◌^◌, ◌++◌, true, false, None, IsSome, IfSome, if◌then◌else◌, length, option_map, replicate, OnOk, IfOk};
+ghost use Rattle.std.specs.Prelude.{◌≡◌, ◌+◌, ◌-◌, ◌<◌, ◌≤◌, ◌^◌, ◌++◌, [], true, false, None, IsSome, IfSome, if◌then◌else◌, length, option_map, replicate, OnOk, IfOk};
 ghost use Rattle.qc_send.specs.Headers.{header_with, token_bytes, token_in};
 ghost use Rattle.qc_send.specs.Filling.{padded_to, padding_to};
 ghost use Rattle.qc_base.specs.PacketNumber.{number_of};
@@ -20,7 +20,7 @@ ghost use Rattle.qc_state.specs.Spaces.{is_space};
 ghost use Rattle.qc_state.specs.View.{ideal, held};
 
 use crate::owing::{is_probe_due, next_number};
-use crate::planning::plain_size;
+use crate::planning::{cid_len, number_len, plain_size};
 use bytes::Bytes;
 use qc_base::{EcnCodepoint, Instant, LongType, PacketNumber, Side, SpaceId, varint_size};
 use qc_core::Core;
@@ -73,6 +73,7 @@ pub(crate) fn spelled_number(number: u64, acked: u64) -> PacketNumber
 
 /// The header of the next packet, of this form, with this spin bit where it is a 1-RTT packet, and this token where it is an Initial
 /// one.
+#[inline(always)]
 #[tactic(auto, unfolding(qc_state::specs::Setup::ideal_setup))]
 fn header_with<U: Suite>(core: &Core<U>, form: Form, spin: bool, token: Bytes) -> Header
     ensures { result ≡ header_with (ideal U.Random.stream core.now) form spin token }
@@ -113,15 +114,35 @@ fn header_with<U: Suite>(core: &Core<U>, form: Form, spin: bool, token: Bytes) -
     }
 }
 
+/// How many bytes the header of the next packet, of this form, has as it is written without a token.
+fn written_len<U: Suite>(core: &Core<U>, form: Form) -> usize
+    ensures value { result ≡ length (header_spelling (header_with (ideal U.Random.stream core.now) form false []) 0) }
+    ensures most { result ≤ 61 }
+{
+    header_with(core, form, false, Bytes::new()).encoded_len()
+}
+
+/// The same, where a 1-RTT packet's header isn't written for it.
+fn bare_len<U: Suite>(core: &Core<U>, form: Form) -> usize
+    ensures value { result ≡ length (header_spelling (header_with (ideal U.Random.stream core.now) form false []) 0) }
+    ensures most { result ≤ 61 }
+{
+    match form {
+        Form::OneRtt => 1 + cid_len(core) + number_len(core, form),
+        Form::Initial | Form::Handshake | Form::Early => written_len(core, form),
+    }
+}
+
 /// How much room for frames the next packet, of this form, has where so many bytes are left in its datagram: behind its header, and before
 /// its tag.
+#[inline(always)]
 #[tactic(auto, unfolding(qc_state::specs::Setup::ideal_setup))]
 pub(crate) fn frame_room<U: Suite>(core: &Core<U>, left: usize, form: Form) -> usize
     ensures value { result ≡ room_of left (ideal U.Random.stream core.now) form }
     ensures wide { is_space (number_space form) Initial ≡ false → JOINING_SIZE ≤ left → 25 ≤ result }
     ensures within { result ≤ left }
 {
-    let bare = header_with(core, form, false, Bytes::new()).encoded_len();
+    let bare = bare_len(core, form);
     let rest = left.saturating_sub(TAG);
     let room = rest.saturating_sub(bare);
     room.saturating_sub(token_bytes(form, core.setup.initial_token.as_slice()))
@@ -166,6 +187,7 @@ pub(crate) fn fills_up<U: Suite>(core: &Core<U>, form: Form, frames: &FrameList)
 
 /// A packet of this form is begun, and a datagram with it where it opens one: the number that would be next is skipped where it is to be, and
 /// a probe that is due in its space is spent. Want of memory is the only refusal.
+#[inline(always)]
 #[tactic(auto, unfolding(qc_state::specs::Sending::begun_after, qc_state::specs::Sending::skipped_after, qc_state::specs::Moves::move_to, qc_state::specs::Moves::deeds_move))]
 pub(crate) fn begin_packet<U: Suite>(
     core: &mut Core<U>,
@@ -379,8 +401,10 @@ pub(crate) fn seal<U: Suite>(
     ensures counts { IfOk result (λ sealed. sealed.counts ≡ is_flown (ideal U.Random.stream core.old) (padded_to (ideal U.Random.stream core.old) form least frames)) }
 {
     let mut frames = frames;
-    let start = buf.len();
     let plain = plain_size(left, room, &frames);
+    // Room for the whole packet, so that the buffer doesn't grow step by step.
+    buf.reserve(plain.max(least))?;
+    let start = buf.len();
     let number = next_number(core, form.space());
     let header = header(core, form)?;
     seal_with(core, form, &header, &mut frames, left, least, buf)?;

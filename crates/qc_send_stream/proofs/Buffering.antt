@@ -6,9 +6,9 @@ use Rattle.std.specs.BTreeMap.{insert_entry}
 use Rattle.std.specs.Ordering.{nat_cmp}
 use Rattle.qc_send_stream.specs.declared.segments.Segment.{Segment}
 use Rattle.qc_send_stream.specs.Buffer.{Kept, Buffer, row, lies_in, marked, without, has_bytes, bytes_written, range_acked, range_lost, range_sealed, sent_with}
-use Rattle.qc_send_stream.specs.Segments.{begin, flat, Apart, EndBy, CutAt, Listed, among, buffered, stood, outside}
+use Rattle.qc_send_stream.specs.Segments.{begin, flat, Apart, EndBy, CutAt, Listed, among, buffered, stood}
 use Rattle.qc_send_stream.proofs.Cutting.{insert_more}
-use Rattle.qc_send_stream.proofs.Ranges.{stood_flat, out_flat}
+use Rattle.qc_send_stream.proofs.Ranges.{stood_flat}
 
 -- ---- bytes behind all others
 
@@ -104,12 +104,12 @@ unmark_none start end (e ∷ es) [] listed none = by (unmark_none start end es [
         subst (λ (t : Bool). row t (begin e) e.1.bytes ++ flat es ≡ marked false start end (row t (begin e) e.1.bytes ++ flat es)) (sym is)
         (ap (λ (w : List Kept). row false (begin e) e.1.bytes ++ w) rest ∙ sym (unmark_row start end (begin e) e.1.bytes (flat es)))
 
-pub acked_bytes : (written sent start : ℕ) (old cut : List (ℕ × Segment)) (end : ℕ) → Apart 0 cut → CutAt start cut → CutAt (min end sent) cut → flat cut ≡ flat old
-    → buffered written sent (outside start (min end sent) cut) ≡ range_acked start end (buffered written sent old)
+pub acked_bytes : (written sent start last : ℕ) (old new : List (ℕ × Segment)) (end : ℕ) → last ≡ min end sent → flat new ≡ without start last (flat old)
+    → buffered written sent new ≡ range_acked start end (buffered written sent old)
 unfolding buffered range_acked
-acked_bytes written sent start old cut end apart first last same =
+acked_bytes written sent start last old new end cut gone =
     ap (λ (v : List Kept). (let b : Buffer = record { written = written; sent = sent; kept = v } in b))
-    (out_flat start (min end sent) 0 cut apart first last ∙ ap (λ (v : List Kept). without start (min end sent) v) same)
+    (gone ∙ ap (λ (i : ℕ). without start i (flat old)) cut)
 
 pub lost_bytes : (written sent start : ℕ) (old cut : List (ℕ × Segment)) (end : ℕ) → Apart 0 cut → CutAt start cut → CutAt (min end sent) cut → flat cut ≡ flat old
     → buffered written sent (stood true start (min end sent) cut) ≡ range_lost start end (buffered written sent old)

@@ -21,7 +21,7 @@ unfolding marked
 length-marked l start end [] = refl
 length-marked l start end (k ∷ ks) = ap (λ (n : ℕ). suc n) (length-marked l start end ks)
 
-flat_size : (e : ℕ × Segment) (es : List (ℕ × Segment)) → length (flat (e ∷ es)) ≡ length e.1.bytes + length (flat es)
+pub flat_size : (e : ℕ × Segment) (es : List (ℕ × Segment)) → length (flat (e ∷ es)) ≡ length e.1.bytes + length (flat es)
 unfolding flat
 flat_size e es =
     length-append (row e.1.lost (begin e) e.1.bytes) (flat es) ∙ ap (λ (n : ℕ). n + length (flat es)) (length-row e.1.lost (begin e) e.1.bytes)

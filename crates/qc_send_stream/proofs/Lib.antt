@@ -1,6 +1,8 @@
 pub mod Past
 pub mod Cutting
+pub mod Lasts
 pub mod Ranges
+pub mod FrontTaken
 pub mod LostEnds
 pub mod Next
 pub mod Outcomes

@@ -261,7 +261,7 @@ stood_flat lost start end lo (e ∷ es) apart first last =
 
 -- ---- the same of segments that are taken out
 
-out_yes : (start end : ℕ) (e : ℕ × Segment) (es : List (ℕ × Segment)) → start < e.0 → e.0 ≤ end → outside start end (e ∷ es) ≡ outside start end es
+pub out_yes : (start end : ℕ) (e : ℕ × Segment) (es : List (ℕ × Segment)) → start < e.0 → e.0 ≤ end → outside start end (e ∷ es) ≡ outside start end es
 unfolding outside
 out_yes start end e es low high = rw (within_yes start end e low high) refl
 
@@ -269,7 +269,7 @@ out_low : (start end : ℕ) (e : ℕ × Segment) (es : List (ℕ × Segment)) �
 unfolding outside
 out_low start end e es low = rw (within_low start end e low) refl
 
-out_high : (start end : ℕ) (e : ℕ × Segment) (es : List (ℕ × Segment)) → start < e.0 → end < e.0 → outside start end (e ∷ es) ≡ e ∷ outside start end es
+pub out_high : (start end : ℕ) (e : ℕ × Segment) (es : List (ℕ × Segment)) → start < e.0 → end < e.0 → outside start end (e ∷ es) ≡ e ∷ outside start end es
 unfolding outside
 out_high start end e es low high = rw (within_high start end e low high) refl
 
@@ -285,7 +285,7 @@ out_further a b end lo (e ∷ es) apart first second =
       | inr low ↦ out_yes a end e es (omega arith) low ∙ rest ∙ sym (out_yes b end e es (omega arith) low)
     ]
 
-out_beyond : (start end lo : ℕ) (es : List (ℕ × Segment)) → Apart lo es → start ≤ lo → end ≤ lo → outside start end es ≡ es
+pub out_beyond : (start end lo : ℕ) (es : List (ℕ × Segment)) → Apart lo es → start ≤ lo → end ≤ lo → outside start end es ≡ es
 unfolding Apart outside
 out_beyond start end lo [] apart low high = refl
 out_beyond start end lo (e ∷ es) apart low high =

@@ -70,6 +70,16 @@ front_of o (Some e) = if nat_lt (begin e) o then Some (e.0, take (o - begin e) e
 unfoldable pub straddling : ℕ → List (ℕ × Segment) → Option (ℕ × List ℕ × Bool)
 straddling o es = front_of o (first_behind o es)
 
+-- where the first segment ends, and how many bytes it has
+unfoldable pub first_segment : List (ℕ × Segment) → Option (ℕ × ℕ)
+first_segment [] = None
+first_segment (e ∷ es) = Some (e.0, length e.1.bytes)
+
+-- a range begins with the first segment, which ends at `at`, and ends within it
+unfoldable pub IsFront : (start end at : ℕ) → List (ℕ × Segment) → Type 0
+IsFront start end at [] = ⊥
+IsFront start end at (e ∷ es) = (at ≡ e.0) × (start + length e.1.bytes ≡ at) × (start < end) × (end < at)
+
 -- the segments, of which one that has bytes on both sides of an offset is cut there
 unfoldable pub split : ℕ → List (ℕ × Segment) → List (ℕ × Segment)
 split o [] = []

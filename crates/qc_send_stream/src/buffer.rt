@@ -4,8 +4,9 @@ ghost use Rattle.std.specs.Prelude.{◌≡◌, ◌+◌, ◌^◌, ◌<◌, ◌≤
 ghost use Rattle.qc_send_stream.specs.Buffer.{bytes_written, discarded, has_bytes, nothing, part_bytes, part_offset, range_acked, range_lost, range_sealed, sent_with, waiting, IsNext};
 
 use crate::ends::{any_lost, first_lost, note_range};
+use crate::fronts::take_range;
 use crate::parts::{fresh_part, has_fresh, lost_part};
-use crate::segments::{Segment, cut_range, keep, mark, remove, unmark};
+use crate::segments::{Segment, cut_range, keep, mark, unmark};
 use bytes::{Buf, Bytes};
 use std::alloc::{AllocError, Global};
 use std::collections::{BTreeMap, BTreeSet};
@@ -146,6 +147,7 @@ impl SendBuffer {
     /// # Errors
     ///
     /// Want of memory.
+    #[inline(always)]
     pub fn offer(&mut self, most: usize) -> Result<Option<(u64, Bytes)>, AllocError>
         ensures next { IfOk result (λ p. IsNext most self.old p) }
         ensures fits { IfOk result (λ p. part_offset p + length (part_bytes p) ≤ self.old.written) }
@@ -185,8 +187,7 @@ impl SendBuffer {
         ensures err { OnErr result (self.new ≡ self.old) }
     {
         let end = end.min(self.sent);
-        cut_range(&mut self.segments, &mut self.lost, start, end)?;
-        let count = remove(&mut self.segments, start, end);
+        let count = take_range(&mut self.segments, &mut self.lost, start, end)?;
         self.let_go += count;
         Ok(count)
     }

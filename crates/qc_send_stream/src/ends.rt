@@ -80,6 +80,7 @@ fn drop_lowest(lost: &mut BTreeSet<u64>)
 }
 
 /// Where the first lost segment ends. Ends of segments that aren't lost any more are let go.
+#[inline(always)]
 pub(crate) fn first_lost(segments: &BTreeMap<u64, Segment>, lost: &mut BTreeSet<u64>) -> Option<u64>
     requires apart { Apart 0 segments.now.entries }
     requires listed { Listed segments.now.entries lost.old.keys }

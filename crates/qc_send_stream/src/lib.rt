@@ -4,6 +4,7 @@
 mod buffer;
 mod ends;
 mod fault;
+mod fronts;
 mod laws;
 mod outcome;
 mod parts;

@@ -57,11 +57,8 @@ pub(crate) fn fresh_part(
 pub(crate) fn has_fresh(segments: &BTreeMap<u64, Segment>, sent: u64) -> bool
     ensures { result ≡ is_some (first_behind sent segments.now.entries) }
 {
-    let Some((_end, _)) = segments
-        .range((Bound::Excluded(sent), Bound::Unbounded))
-        .next()
-    else {
-        return false;
-    };
-    true
+    match segments.last_key_value() {
+        Some((end, _)) => sent < *end,
+        None => false,
+    }
 }

@@ -58,7 +58,7 @@ pub(crate) fn keep(
 }
 
 /// Passes over the first bytes of the segment that ends there.
-fn shorten(segments: &mut BTreeMap<u64, Segment>, end: u64, count: usize)
+pub(crate) fn shorten(segments: &mut BTreeMap<u64, Segment>, end: u64, count: usize)
     requires { Holds count (lookup (is_at (nat_cmp end)) segments.old.entries) }
     ensures { segments.new.entries ≡ changed_at end (without_front count) segments.old.entries }
 {

@@ -1,7 +1,6 @@
 -- The ACK of a space, from what the calls that make it say.
-use Rattle.std.proofs.Common.{◌≡◌, ℕ, ◌-◌, ◌/◌, ◌<◌, ◌^◌, nat_lt, List, [], length, reverse, refl, ap, sym, ◌∙◌, subst, Bool, true, false, ◌==◌, ◌&&◌, ◌||◌, not, slice_index_or, Option, Some, None, Vec, arith}
+use Rattle.std.proofs.Common.{◌≡◌, ℕ, ◌-◌, ◌/◌, ◌<◌, ◌^◌, nat_lt, List, [], length, reverse, refl, ap, sym, ◌∙◌, subst, Bool, true, false, ◌==◌, ◌&&◌, ◌||◌, not, slice_index_or, Option, Some, None, arith}
 use Rattle.std.specs.Prelude.{IfNone, IfSome}
-use Rattle.std.specs.Global.{Global}
 use Rattle.qc_frame.specs.declared.frames.AckOf.{AckOf}
 use Rattle.std.proofs.lemmas.Bool.Decides.{nat_tests}
 use Rattle.std.specs.List.{flat_map}
@@ -135,14 +134,14 @@ some_is : {A : Type 0} (a b : A) → Some a ≡ Some b → a ≡ b
 some_is a b e = cc
 
 -- the same, of the answer of the call that makes it
-pub says_some : (time delay : ℕ) (w : SpaceWaiting) (given : List NumberRange) (counts : Option EcnCounts) (x : Option (AckOf (Vec ℕ Global))) (ack : AckOf (Vec ℕ Global)) → x ≡ Some ack → given ≡ w.acks.ranges →
+pub says_some : (time delay : ℕ) (w : SpaceWaiting) (given : List NumberRange) (counts : Option EcnCounts) (x : Option (AckOf (List ℕ))) (ack : AckOf (List ℕ)) → x ≡ Some ack → given ≡ w.acks.ranges →
     counts ≡ told_counts w.marks → time < 18446744073709551616 → delay ≡ ack_delay time w.acks.marks →
-    IfSome x (λ a. ranges_of (ack_map (λ b. b.items) a) ≡ reverse given) → IfSome x (λ a. (a.delay ≡ delay) × (a.ecn ≡ counts)) →
-    (delay < 2 ^ 62 → CountsFit counts → IfSome x (λ a. Fits (frames.Ack (ack_map (λ b. b.items) a)))) → IfSome x (λ a. a.additional.items ≡ flat_map varint (numbers_of a.additional.items)) →
-    SaysAck time w (ack_map (λ b. b.items) ack)
+    IfSome x (λ a. ranges_of (ack_map (λ b. b) a) ≡ reverse given) → IfSome x (λ a. (a.delay ≡ delay) × (a.ecn ≡ counts)) →
+    (delay < 2 ^ 62 → CountsFit counts → IfSome x (λ a. Fits (frames.Ack (ack_map (λ b. b) a)))) → IfSome x (λ a. a.additional ≡ flat_map varint (numbers_of a.additional)) →
+    SaysAck time w (ack_map (λ b. b) ack)
 unfolding ack_delay
 says_some time delay w given counts None ack is same is_counts in_range is_delay ranges others fits shortest = cc
 says_some time delay w given counts (Some a) ack is same is_counts in_range is_delay ranges others fits shortest =
-    subst (λ (x : AckOf (Vec ℕ Global)). SaysAck time w (ack_map (λ b. b.items) x)) (some_is a ack is)
-    (says time delay w (ack_map (λ b. b.items) a) (ranges ∙ ap reverse same) is_delay others.0 (others.1 ∙ is_counts)
+    subst (λ (x : AckOf (List ℕ)). SaysAck time w (ack_map (λ b. b) x)) (some_is a ack is)
+    (says time delay w (ack_map (λ b. b) a) (ranges ∙ ap reverse same) is_delay others.0 (others.1 ∙ is_counts)
     (fits (small_delay delay time w.acks.marks.came_at in_range is_delay) (subst CountsFit (sym is_counts) (told_fit w.marks))) shortest)

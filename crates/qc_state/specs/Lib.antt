@@ -7,6 +7,7 @@ pub mod Expansion
 pub mod First
 pub mod Flight
 pub mod Forms
+pub mod Given
 pub mod Headline
 pub mod Ids
 pub mod Keys

@@ -74,6 +74,9 @@ impl CryptoQueue {
         ensures none { IfOk result (λ part. IfNone part (self.new ≡ self.old)) }
         ensures bound { IfOk result (λ part. IfSome part (λ p. p.0 + length p.1 < 2 ^ 62)) }
     {
+        if !self.waits {
+            return Ok(None);
+        }
         match self.buffer.offer(most)? {
             None => Ok(None),
             Some((offset, bytes)) => {

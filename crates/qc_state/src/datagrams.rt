@@ -16,7 +16,7 @@ use bytes::Bytes;
 use qc_base::{TransportError, TransportErrorCode, varint_size};
 use qc_datagrams::{DatagramFault, Datagrams};
 use qc_frame::{FrameList, FrameOf, OwnedFrame};
-use std::alloc::{AllocError, Global};
+use std::alloc::AllocError;
 
 /// How many bytes a length of two bytes can tell at most.
 const MOST: usize = 16_383;
@@ -26,14 +26,13 @@ const MOST: usize = 16_383;
 #[tactic(auto, unfolding(qc_datagrams::specs::Steps::after, qc_datagrams::specs::Steps::after_step))]
 pub(crate) fn hand_datagram(
     datagrams: &mut Datagrams,
-    alloc: Global,
-    body: &[u8],
+    body: &Bytes,
 ) -> Result<(Option<TransportError>, bool), AllocError>
     ensures stop { IfOk result (λ r. r.0 ≡ (if is_refused body.now datagrams.old then Some (record { code = 0x0a; frame = None }) else None)) }
     ensures tells { IfOk result (λ r. r.1 ≡ (not (is_refused body.now datagrams.old) && (length datagrams.old.incoming == 0))) }
     ensures leads { OnOk result (datagrams.new ≡ after (Came body.now ∷ []) datagrams.old) }
 {
-    let body = Bytes::copy_from_slice(alloc, body)?;
+    let body = body.clone()?;
     match datagrams.take_frame(body) {
         Ok(first) => Ok((None, first)),
         Err(DatagramFault::Refused) => Ok((
@@ -112,19 +111,17 @@ fn frame_size(datagram: &Bytes) -> usize
     head_size(datagram.len()) + datagram.len()
 }
 
-/// The frame of a datagram. Want of memory is the only refusal.
-fn frame_of(alloc: Global, datagram: Bytes) -> Result<OwnedFrame, AllocError>
-    ensures { IfOk result (λ f. owned f ≡ frames.Datagram datagram) }
+/// The frame of a datagram.
+fn frame_of(datagram: Bytes) -> OwnedFrame
+    ensures { owned result ≡ frames.Datagram datagram }
 {
-    let body = Vec::from_slice(alloc, datagram.as_slice())?;
-    Ok(FrameOf::Datagram { body })
+    FrameOf::Datagram { body: datagram }
 }
 
 /// Takes the datagrams that are to be sent, the oldest first, as long as the first one fits into the room, and answers how much of it they
 /// leave. Want of memory is the only refusal.
 pub(crate) fn take_datagrams(
     datagrams: &mut Datagrams,
-    alloc: Global,
     room: usize,
     frames: &mut FrameList,
 ) -> Result<usize, AllocError>
@@ -136,7 +133,7 @@ pub(crate) fn take_datagrams(
             return Ok(left);
         };
         left -= frame_size(&datagram);
-        let frame = frame_of(alloc, datagram)?;
+        let frame = frame_of(datagram);
         frames.push(frame)?;
     }
 }

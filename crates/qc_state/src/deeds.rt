@@ -2,7 +2,7 @@
 
 ghost use Rattle.std.specs.Prelude.{◌≡◌, [], ◌∷◌, ◌++◌, OnOk, OnErr};
 
-use crate::body::Body;
+use crate::given::Given;
 use crate::life::ConnectionError;
 use qc_base::SpaceId;
 use qc_frame::FrameList;
@@ -102,7 +102,7 @@ pub enum Did {
         /// The layer.
         layer: Layer,
         /// The frame as it is written.
-        body: Body,
+        body: Given,
     },
     /// The life rose to this rank.
     Rose {
@@ -181,7 +181,7 @@ impl Dids {
     }
 
     /// A frame was given to a layer. Want of memory is the only refusal, and then the list is as before.
-    pub fn push_gave(&mut self, layer: Layer, body: Body) -> Result<(), AllocError>
+    pub fn push_gave(&mut self, layer: Layer, body: Given) -> Result<(), AllocError>
         ensures ok { OnOk result (self.new ≡ self.old ++ Did.Gave layer body ∷ []) }
         ensures err { OnErr result (self.new ≡ self.old) }
     {
@@ -214,6 +214,13 @@ impl Dids {
     {
         self.deeds.push(Did::Quiet(quiet))?;
         Ok(())
+    }
+
+    /// Lets go of all deeds, and keeps their room.
+    pub fn clear(&mut self)
+        ensures { self.new ≡ [] }
+    {
+        self.deeds.clear();
     }
 
     /// The deeds.

@@ -5,6 +5,7 @@ ghost use Rattle.std.specs.List.{list_any};
 ghost use Rattle.qc_frame.specs.Frame.{owned};
 ghost use Rattle.qc_state.specs.Flight.{counts_in_flight, flown_packet, has_numbers_alone, is_padding, kept_frames, kept_of, meta_of, metas_of};
 
+use bytes::Bytes;
 use qc_base::Instant;
 use qc_flight::{SentPacket, StreamMeta, StreamMetaVec};
 use qc_frame::{FrameList, FrameOf, OwnedAck, OwnedFrame};
@@ -48,13 +49,13 @@ fn keep_numbers(kept: &mut FrameList, frame: &OwnedFrame) -> Result<(), AllocErr
 }
 
 /// Keeps of a frame what its packet in flight needs. Want of memory is the only refusal.
-fn keep(kept: &mut FrameList, alloc: Global, frame: &OwnedFrame) -> Result<(), AllocError>
+fn keep(kept: &mut FrameList, frame: &OwnedFrame) -> Result<(), AllocError>
     ensures { OnOk result (kept.new ≡ kept.old ++ kept_of (owned frame.now)) }
 {
     match frame {
         FrameOf::HandshakeDone => kept.push(FrameOf::HandshakeDone),
         FrameOf::Crypto { offset, body } => {
-            let body = Vec::from_slice(alloc, body.as_slice())?;
+            let body = body.clone()?;
             kept.push(FrameOf::Crypto {
                 offset: *offset,
                 body,
@@ -63,11 +64,11 @@ fn keep(kept: &mut FrameList, alloc: Global, frame: &OwnedFrame) -> Result<(), A
         FrameOf::Ack(ack) => kept.push(FrameOf::Ack(OwnedAck {
             largest: ack.largest,
             delay: 0,
-            additional: Vec::new(alloc),
+            additional: Bytes::new(),
             ecn: None,
         })),
         FrameOf::NewToken { .. } => kept.push(FrameOf::NewToken {
-            token: Vec::new(alloc),
+            token: Bytes::new(),
         }),
         FrameOf::ResetStream { .. }
         | FrameOf::StopSending { .. }
@@ -97,7 +98,7 @@ fn kept_listed(alloc: Global, frames: &[OwnedFrame]) -> Result<FrameList, AllocE
 {
     let mut kept = FrameList::new(alloc);
     for frame in frames {
-        keep(&mut kept, alloc, frame)?;
+        keep(&mut kept, frame)?;
     }
     Ok(kept)
 }

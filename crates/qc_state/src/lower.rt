@@ -2,7 +2,7 @@
 
 ghost use Rattle.std.specs.Prelude.{◌≡◌, ◌+◌, ◌<◌, ◌≤◌, ◌^◌, ◌++◌, Err, length, map, IfOk, OnOk, OnErr};
 ghost use Rattle.qc_assembler.specs.Assembly.{advanced, inserted, part_count};
-ghost use Rattle.qc_frame.specs.Frame.{ack_map, borrowed};
+ghost use Rattle.qc_frame.specs.Frame.{ack_map, owned};
 ghost use Rattle.qc_frame.specs.FrameFits.{Fits};
 ghost use Rattle.qc_frame.specs.declared.frames.FrameOf.TheVariants as frames;
 ghost use Rattle.qc_recovery.specs.Frames.{ranges_up_of, values_of};
@@ -23,7 +23,7 @@ use qc_base::{Instant, SpaceId, TransportError};
 use qc_cids::ConnectionIds;
 use qc_datagrams::Datagrams;
 use qc_flight::SentPacket;
-use qc_frame::{Ack, Frame, FrameOf};
+use qc_frame::{Ack, FrameOf, OwnedFrame};
 use qc_params::TransportParameters;
 use qc_path::Controller;
 use qc_recovery::{Around, Fired, PathData, Recovery, Settled};
@@ -146,20 +146,16 @@ impl<S> Lower<S> {
 
     /// The streams or the datagrams are handed a frame, if it is about them. Answers the error with which it is refused, if it is, and
     /// whether it is to be told that a datagram came. Want of memory is the only refusal of the call.
-    pub fn hand(
-        &mut self,
-        alloc: Global,
-        frame: &Frame<'_>,
-    ) -> Result<(Option<TransportError>, bool), AllocError>
-        requires { Fits (borrowed frame.now) }
-        ensures stop { IfOk result (λ r. r.0 ≡ handed_stop (borrowed frame.now) self.old) }
-        ensures tells { IfOk result (λ r. r.1 ≡ tells_datagram (borrowed frame.now) self.old.datagrams) }
-        ensures leads { OnOk result (self.new ≡ frame_handed (borrowed frame.now) self.old) }
+    pub fn hand(&mut self, frame: &OwnedFrame) -> Result<(Option<TransportError>, bool), AllocError>
+        requires { Fits (owned frame.now) }
+        ensures stop { IfOk result (λ r. r.0 ≡ handed_stop (owned frame.now) self.old) }
+        ensures tells { IfOk result (λ r. r.1 ≡ tells_datagram (owned frame.now) self.old.datagrams) }
+        ensures leads { OnOk result (self.new ≡ frame_handed (owned frame.now) self.old) }
     {
         match frame {
-            FrameOf::Datagram { body } => hand_datagram(&mut self.datagrams, alloc, body),
+            FrameOf::Datagram { body } => hand_datagram(&mut self.datagrams, body),
             _ => {
-                let stop = hand(&mut self.streams, alloc, frame)?;
+                let stop = hand(&mut self.streams, frame)?;
                 Ok((stop, false))
             }
         }

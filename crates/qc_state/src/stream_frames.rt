@@ -14,8 +14,9 @@ ghost use Rattle.qc_turns.specs.Ready.{next_turn};
 use crate::transmit::SPARE_ROOM;
 use qc_base::{StreamId, VarInt, varint_size};
 use qc_frame::{FrameList, FrameOf, OwnedFrame};
+use qc_send_stream::Part;
 use qc_streams::{Control, StreamPart, StreamsState};
-use std::alloc::{AllocError, Global};
+use std::alloc::AllocError;
 
 /// How many bytes the head of a STREAM frame has at most whose length has at most two bytes (RFC 9000, section 19.8).
 const HEAD: usize = 19;
@@ -88,19 +89,22 @@ fn control_frame(frame: &Control) -> Result<OwnedFrame, AllocError>
 /// The STREAM frame with a part of a stream, of at most 16383 bytes, whose numbers have room in their fields. Want of memory is the only
 /// refusal.
 #[tactic(auto, unfolding(qc_frame::specs::FrameFits::Fits))]
-fn part_frame(alloc: Global, drawn: StreamPart) -> Result<OwnedFrame, AllocError>
+fn part_frame(drawn: StreamPart) -> Result<OwnedFrame, AllocError>
     requires { length drawn.part.bytes ≤ 16383 }
     ensures frame { IfOk result (λ f. owned f ≡ frames.Stream drawn.id drawn.part.offset drawn.part.last drawn.part.bytes) }
     ensures fits { IfOk result (λ f. Fits (owned f)) }
 {
     let id = stream_id(drawn.id)?;
-    let offset = size(drawn.part.offset)?;
-    let body = Vec::from_slice(alloc, drawn.part.bytes.as_slice())?;
+    let Part {
+        offset,
+        bytes,
+        last,
+    } = drawn.part;
     Ok(FrameOf::Stream {
         id,
-        offset,
-        fin: drawn.part.last,
-        body,
+        offset: size(offset)?,
+        fin: last,
+        body: bytes,
     })
 }
 
@@ -149,7 +153,6 @@ pub(crate) fn take_controls(
 /// refusal.
 pub(crate) fn take_parts(
     streams: &mut StreamsState,
-    alloc: Global,
     room: usize,
     frames: &mut FrameList,
 ) -> Result<usize, AllocError>
@@ -163,7 +166,7 @@ pub(crate) fn take_parts(
             return Ok(left);
         };
         left -= part_len(&drawn);
-        let frame = part_frame(alloc, drawn)?;
+        let frame = part_frame(drawn)?;
         frames.push(frame)?;
     }
 }

@@ -1,7 +1,7 @@
 //! Frames that are handed to the streams: each is one of their own steps, or is refused and changes nothing.
 
 ghost use Rattle.std.specs.Prelude.{◌≡◌, ◌<◌, ◌^◌, None, IfOk, OnOk, option_map};
-ghost use Rattle.qc_frame.specs.Frame.{borrowed};
+ghost use Rattle.qc_frame.specs.Frame.{owned};
 ghost use Rattle.qc_frame.specs.FrameFits.{Fits};
 ghost use Rattle.qc_state.specs.Moves.{told, told_to_streams};
 ghost use Rattle.qc_state.specs.Streams.{is_given_to_streams, steps_of_frame, streams_stop};
@@ -9,13 +9,13 @@ ghost use Rattle.qc_streams.specs.Refusals.{code_of};
 ghost use Rattle.qc_streams.specs.Steps.{Stream, ResetStream, StopSending, MaxStreamData, MaxStreams, MaxData, refusal_of, steps_of};
 ghost use Rattle.qc_streams.specs.Waits.{after};
 
-use crate::body::Body;
 use crate::deeds::{Dids, Layer};
+use crate::given::Given;
 use bytes::Bytes;
 use qc_base::{Dir, StreamId, TransportError, VarInt};
-use qc_frame::{Frame, FrameOf, put_frame};
+use qc_frame::{FrameOf, OwnedFrame};
 use qc_streams::{Refusal, StreamFault, StreamsState};
-use std::alloc::{AllocError, Global};
+use std::alloc::AllocError;
 
 /// The error with which a refused frame closes the connection: it names no type of frame.
 fn error_of(refusal: Option<Refusal>) -> Option<TransportError>
@@ -133,12 +133,11 @@ fn hand_limit(streams: &mut StreamsState, limit: VarInt)
 #[tactic(auto, unfolding(crate::specs::Streams::streams_stop, crate::specs::Streams::steps_of_frame, qc_frame::specs::FrameFits::Fits, qc_streams::specs::Steps::refusal_of, qc_streams::specs::Steps::steps_of, qc_streams::specs::Steps::came, qc_streams::specs::Waits::after))]
 pub(crate) fn hand(
     streams: &mut StreamsState,
-    alloc: Global,
-    frame: &Frame<'_>,
+    frame: &OwnedFrame,
 ) -> Result<Option<TransportError>, AllocError>
-    requires { Fits (borrowed frame.now) }
-    ensures stop { IfOk result (λ stop. stop ≡ streams_stop (borrowed frame.now) streams.old) }
-    ensures leads { OnOk result (streams.new ≡ after (steps_of_frame (borrowed frame.now) streams.old) streams.old) }
+    requires { Fits (owned frame.now) }
+    ensures stop { IfOk result (λ stop. stop ≡ streams_stop (owned frame.now) streams.old) }
+    ensures leads { OnOk result (streams.new ≡ after (steps_of_frame (owned frame.now) streams.old) streams.old) }
 {
     let refusal = match frame {
         FrameOf::Stream {
@@ -147,7 +146,7 @@ pub(crate) fn hand(
             fin,
             body,
         } => {
-            let body = Bytes::copy_from_slice(alloc, body)?;
+            let body = body.clone()?;
             hand_stream(streams, *id, *offset, body, *fin)?
         }
         FrameOf::ResetStream {
@@ -175,8 +174,8 @@ pub(crate) fn hand(
 }
 
 /// Whether it is told of a frame that the streams or the datagrams are handed: not of one that only says where the peer was blocked.
-fn is_given(frame: &Frame<'_>) -> bool
-    ensures { result ≡ is_given_to_streams (borrowed frame.now) }
+fn is_given(frame: &OwnedFrame) -> bool
+    ensures { result ≡ is_given_to_streams (owned frame.now) }
 {
     match frame {
         FrameOf::ResetStream { .. }
@@ -191,13 +190,11 @@ fn is_given(frame: &Frame<'_>) -> bool
 }
 
 /// It is told of a frame that the streams or the datagrams are handed, as it is written. Want of memory is the only refusal.
-pub fn tell_handed(alloc: Global, did: &mut Dids, frame: &Frame<'_>) -> Result<(), AllocError>
-    ensures { OnOk result (did.new ≡ told did.old (told_to_streams (borrowed frame.now))) }
+pub fn tell_handed(did: &mut Dids, frame: OwnedFrame) -> Result<(), AllocError>
+    ensures { OnOk result (did.new ≡ told did.old (told_to_streams (owned frame))) }
 {
-    if !is_given(frame) {
+    if !is_given(&frame) {
         return Ok(());
     }
-    let mut bytes = Vec::new(alloc);
-    put_frame(&mut bytes, frame)?;
-    did.push_gave(Layer::Streams, Body::from_vec(bytes))
+    did.push_gave(Layer::Streams, Given::of_frame(frame))
 }

@@ -103,7 +103,7 @@ fn told_counts(counts: Option<EcnCounts>) -> Option<EcnCounts>
 #[tactic(auto, using(crate::proofs::AckLemmas::says, crate::proofs::AckLemmas::small_delay))]
 fn ack_of(alloc: Global, now: Instant, space: &SpaceWaiting) -> Result<OwnedAck, AllocError>
     requires { ArePackets space.now.acks.ranges }
-    ensures { IfOk result (λ ack. SaysAck now space.now (ack_map (λ bytes. bytes.items) ack)) }
+    ensures { IfOk result (λ ack. SaysAck now space.now (ack_map (λ bytes. bytes) ack)) }
 {
     let delay = space.acks.delay(now);
     let counts = told_counts(space.marks);
@@ -115,7 +115,7 @@ fn ack_of(alloc: Global, now: Instant, space: &SpaceWaiting) -> Result<OwnedAck,
 
 /// How many bytes an ACK has. Want of memory is the only refusal.
 fn ack_len(alloc: Global, ack: &OwnedAck) -> Result<usize, AllocError>
-    ensures { IfOk result (λ n. n ≡ length (frames_spelling (frames.Ack (ack_map (λ bytes. bytes.items) ack.now) ∷ []))) }
+    ensures { IfOk result (λ n. n ≡ length (frames_spelling (frames.Ack (ack_map (λ bytes. bytes) ack.now) ∷ []))) }
 {
     let mut bytes = Vec::new(alloc);
     let frame = FrameOf::Ack(Ack {
@@ -129,6 +129,7 @@ fn ack_len(alloc: Global, ack: &OwnedAck) -> Result<usize, AllocError>
 }
 
 /// Takes the ACK, where it is due and has room, and answers how many bytes it has. Want of memory is the only refusal.
+#[inline(always)]
 #[tactic(auto, unfolding(crate::specs::Waiting::without_all, crate::specs::Waiting::without))]
 fn take_ack(
     space: &mut SpaceWaiting,
@@ -209,7 +210,6 @@ fn crypto_len(offset: u64, bytes: &Bytes) -> usize
 #[tactic(auto, unfolding(crate::specs::Taking::CryptoPart, crate::specs::Waiting::without_all, crate::specs::Waiting::without))]
 fn take_crypto(
     space: &mut SpaceWaiting,
-    alloc: Global,
     room: usize,
     frames: &mut FrameList,
 ) -> Result<usize, AllocError>
@@ -222,8 +222,10 @@ fn take_crypto(
             None => return Ok(left),
             Some((offset, bytes)) => {
                 left -= crypto_len(offset, &bytes);
-                let body = Vec::from_slice(alloc, bytes.as_slice())?;
-                frames.push(FrameOf::Crypto { offset, body })?;
+                frames.push(FrameOf::Crypto {
+                    offset,
+                    body: bytes,
+                })?;
             }
         }
     }
@@ -252,9 +254,9 @@ pub(crate) fn take_offered<S, K: HandshakeTokenKey, T: TimeSource, R: Rng>(
     }
     let more = take_controls(&mut lower.streams, room, frames)?;
     let rest = take_ids(&mut lower.ids, more, frames)?;
-    let least = take_datagrams(&mut lower.datagrams, alloc, rest, frames)?;
+    let least = take_datagrams(&mut lower.datagrams, rest, frames)?;
     let left = take_tokens(space, issuer, ip, random, alloc, least, frames)?;
-    take_parts(&mut lower.streams, alloc, left, frames)
+    take_parts(&mut lower.streams, left, frames)
 }
 
 /// Takes frames that wait at a time for a packet with so much room, in a packet of 1-RTT also those that the layers below offer, and
@@ -289,7 +291,7 @@ pub(crate) fn take<S, K: HandshakeTokenKey, T: TimeSource, R: Rng>(
     let room = room.saturating_sub(count);
     let most = front_room(&lower.datagrams, owed, in_data, room);
     let len = take_ack(space, alloc, now, first, most, &mut frames)?;
-    let rest = take_crypto(space, alloc, room.saturating_sub(len), &mut frames)?;
+    let rest = take_crypto(space, room.saturating_sub(len), &mut frames)?;
     let left = take_offered(
         space,
         lower,

@@ -10,6 +10,7 @@ ghost use Rattle.qc_state.specs.Tokens.{asked_tokens, first_tokens, made_by, tok
 use crate::deeds::Verdict;
 use crate::transmit::SPARE_ROOM;
 use crate::waiting::SpaceWaiting;
+use bytes::Bytes;
 use qc_base::SpaceId;
 use qc_crypto::HandshakeTokenKey;
 use qc_frame::{FrameList, FrameOf};
@@ -65,9 +66,9 @@ impl<K: HandshakeTokenKey, T: TimeSource> Issuer<K, T> {
         0
     }
 
-    /// A token for an address, with a nonce that is drawn. Want of memory is the only refusal.
+    /// The bytes of a token for an address, with a nonce that is drawn. Want of memory is the only refusal.
     #[tactic(auto, unfolding(qc_token::specs::TokenSpelling::token_len), using(crate::proofs::TokensTaken::token_made))]
-    fn issue<R: Rng>(
+    fn token<R: Rng>(
         &self,
         alloc: Global,
         ip: IpAddr,
@@ -82,6 +83,16 @@ impl<K: HandshakeTokenKey, T: TimeSource> Issuer<K, T> {
             issued: self.time.now(),
         };
         Token::new(payload, random).encode(alloc, &self.key)
+    }
+
+    /// A token for an address, with a nonce that is drawn. Want of memory is the only refusal.
+    fn issue<R: Rng>(&self, alloc: Global, ip: IpAddr, random: &mut R) -> Result<Bytes, AllocError>
+        ensures token { IfOk result (λ token. token ≡ token_with K.Aead.sealed K.derived T.time_of self.now.key self.now.time ip (nonce (R.stream random.old))) }
+        ensures size { IfOk result (λ token. length token ≡ ip_len ip + 41) }
+        ensures drawn { OnOk result (R.stream random.new ≡ behind_nonce (R.stream random.old)) }
+    {
+        let token = self.token(alloc, ip, random)?;
+        Ok(Bytes::from_vec(token)?)
     }
 }
 

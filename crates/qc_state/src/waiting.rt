@@ -120,6 +120,7 @@ fn count_mark(mark: Option<EcnCodepoint>, counts: Option<EcnCounts>) -> Option<E
 }
 
 /// A packet came and was accepted. Answers whether its ACK is held back from now on.
+#[inline(always)]
 #[tactic(auto, unfolding(crate::specs::Waiting::came_in))]
 fn came(
     space: &mut SpaceWaiting,

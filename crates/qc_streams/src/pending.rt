@@ -14,6 +14,7 @@ use crate::waiting::{Dues, owes_credit, owes_reset, owes_stop};
 
 impl Stream {
     /// Whether bytes of it wait, or its end, and nothing changes.
+    #[inline(always)]
     pub(crate) fn has_waiting(&self) -> bool
         ensures { result ≡ owes_data self.now.sending }
     {
@@ -39,6 +40,7 @@ impl Stream {
 
 impl Records {
     /// What waits of the stream with an id, nothing where there is none.
+    #[inline(always)]
     fn owes(&self, id: u64) -> Dues
         ensures { result ≡ dues_at (record_of id self.now) }
     {

@@ -119,6 +119,7 @@ impl Stream {
     /// # Errors
     ///
     /// The receiving side's refusal; want of memory. Nothing changes then.
+    #[inline(always)]
     #[tactic(auto, unfolding(crate::specs::Stream::with_receiving))]
     pub fn take_stream(
         &mut self,

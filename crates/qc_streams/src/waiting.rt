@@ -68,6 +68,7 @@ fn has_more(sending: &mut SendPart) -> bool
 }
 
 /// Whether bytes wait, or the end.
+#[inline(always)]
 pub(crate) fn owes_data(sending: &mut Option<SendPart>) -> bool
     ensures owes { result ≡ owes_data sending.old }
     ensures same { sending.new ≡ sending.old }

@@ -337,6 +337,7 @@ impl StreamsState {
     }
 
     /// The same, where the connection lets streams be written on.
+    #[inline(always)]
     #[tactic(auto, using(crate::proofs::Told::none_told), unfolding(crate::specs::Writable::writables_told))]
     pub(crate) fn tell_writables(&mut self, below: Option<u64>)
         ensures { self.new ≡ writables_told below self.old }

@@ -1,15 +1,13 @@
 -- Runs of PADDING frames.
 use Rattle.std.proofs.Common.{◌≡◌, ℕ, zero, suc, ◌+◌, ◌≤◌, length, map, drop, List, ◌++◌, replicate, ◌∙◌, ap, arith}
 use Rattle.std.proofs.lemmas.List.{drop_all}
-use Rattle.std.specs.Prelude.{Vec}
-use Rattle.std.specs.Global.{Global}
 use Rattle.qc_frame.specs.Frame.{owned}
 use Rattle.qc_frame.specs.declared.frames.FrameOf.{FrameOf}
 use Rattle.qc_frame.specs.declared.frames.FrameOf.TheVariants.{Padding}
 use Rattle.qc_text.specs.TraceText.{padding_text, padded_text}
 
 abbrev pub FrameOwned : Type 0
-FrameOwned = FrameOf (Vec ℕ Global)
+FrameOwned = FrameOf (List ℕ)
 
 -- a run at the end
 pub padded_end : (run count : ℕ) → padded_text run (replicate count Padding) ≡ padding_text (run + count)

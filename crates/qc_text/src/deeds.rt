@@ -15,7 +15,7 @@ use crate::pieces::{put_bytes, put_line, put_number, put_optional};
 use bytes::Bytes;
 use qc_base::{SpaceId, TransportError, TransportErrorCode, VarInt};
 use qc_frame::FrameList;
-use qc_state::{ConnectionError, Did, Layer, Quiet, Verdict};
+use qc_state::{ConnectionError, Did, Given, Layer, Quiet, Verdict};
 use std::alloc::AllocError;
 
 /// Appends the lines of deeds.
@@ -47,7 +47,7 @@ fn put_did(out: &mut Vec<u8>, did: &Did) -> Result<(), AllocError>
             number,
             verdict,
         } => put_piece(out, *space, *number, *verdict),
-        Did::Gave { layer, body } => put_gave(out, *layer, body.as_slice()),
+        Did::Gave { layer, body } => put_written(out, *layer, body),
         Did::Rose { life } => put_rose(out, *life),
         Did::Lost(reason) => put_reason(out, b"lost ", reason),
         Did::Quiet(quiet) => put_quiet(out, *quiet),
@@ -111,6 +111,16 @@ fn put_piece(
     out.extend_from_slice(b" ")?;
     out.extend_from_slice(verdict_of(verdict))?;
     out.extend_from_slice(b"\n")
+}
+
+/// Appends the line of what a layer was given, which is written for it.
+fn put_written(out: &mut Vec<u8>, layer: Layer, body: &Given) -> Result<(), AllocError>
+    ensures text { OnOk result (out.new.items ≡ out.old.items ++ gave_text layer body.now) }
+    ensures in_range { OnOk result (IsBytes body.now) }
+{
+    let mut written = Vec::new(*out.allocator());
+    body.put(&mut written)?;
+    put_gave(out, layer, written.as_slice())
 }
 
 /// Appends the line of what a layer was given.

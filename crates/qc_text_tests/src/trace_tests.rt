@@ -8,7 +8,7 @@ use qc_base::{
 use qc_frame::{FrameList, FrameOf, OwnedFrame};
 use qc_state::{
     Answer, ApplicationClose, Body, ConnectionClose, ConnectionError, Dids, EndpointEvent,
-    EndpointEvents, Events, Layer, Quiet, Refusal, Step, Trace, Verdict, Word,
+    EndpointEvents, Events, Given, Layer, Quiet, Refusal, Step, Trace, Verdict, Word,
 };
 use qc_streams::StreamEvent;
 use qc_text::{given_frames_have_their_names, steps_text, trace_text};
@@ -123,9 +123,9 @@ fn packets_that_came(rt: HostRuntime) -> Result<(), Fail> {
 
 /// A step whose deed is that a layer was given these bytes.
 fn given_step(alloc: Global, layer: Layer, bytes: &[u8]) -> Result<Step, AllocError> {
-    let body = Body::from_slice(alloc, bytes)?;
+    let given = Given::of_bytes(Vec::from_slice(alloc, bytes)?);
     let mut did = Dids::new(alloc);
-    did.push_gave(layer, body)?;
+    did.push_gave(layer, given)?;
     Ok(step(alloc, Word::Datagram, did, Answer::Done))
 }
 
@@ -426,7 +426,7 @@ fn a_packet_that_was_sent(rt: HostRuntime) -> Result<(), Fail> {
 
 /// An application's close with code 7 and the reason "bye".
 fn application_close(alloc: Global) -> Result<OwnedFrame, AllocError> {
-    let reason = Vec::from_slice(alloc, b"bye")?;
+    let reason = Bytes::copy_from_slice(alloc, b"bye")?;
     Ok(FrameOf::ApplicationClose {
         error_code: VarInt::from_u32(7),
         reason,

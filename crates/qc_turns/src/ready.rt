@@ -39,6 +39,7 @@ impl Ready {
     /// # Errors
     ///
     /// Want of memory; nothing changes then.
+    #[inline(always)]
     pub fn insert(&mut self, place: Place, id: u64) -> Result<(), AllocError>
         ensures added { OnOk result (self.new ≡ with_place place id self.old) }
         ensures err { OnErr result (self.new ≡ self.old) }
@@ -48,6 +49,7 @@ impl Ready {
     }
 
     /// A place is given up.
+    #[inline(always)]
     pub fn remove(&mut self, place: Place)
         ensures { self.new ≡ without_place place self.old }
     {

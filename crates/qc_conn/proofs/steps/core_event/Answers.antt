@@ -11,7 +11,7 @@ use Rattle.qc_conn.proofs.steps.core_event.Goals as goal
 -- a datagram that was cut
 pub returns-in_ok-event-in-Datagram : goal.returns-in_ok-event-in-Datagram
 returns-in_ok-event-in-Datagram g c =
-    event_leads _ c.args.event c.in-Datagram.now c.in-Datagram.remote c.in-Datagram.ecn c.in-Datagram.first_decode c.in-Datagram.remaining _ _ _ _ _ c.in-Datagram.is c.clock.ensures c.new-did.ensures c.in_ok-event-in-Datagram.ensures
+    event_leads _ c.args.event c.in-Datagram.now c.in-Datagram.remote c.in-Datagram.ecn c.in-Datagram.first_decode c.in-Datagram.remaining _ _ _ _ _ c.in-Datagram.is c.clock.ensures c.clear.ensures c.in_ok-event-in-Datagram.ensures
 
 -- those that an endpoint gives may be given
 given_right : (s : ConnectionIds) (event : ConnectionEvent) (ids read : List IssuedCid) (now : ℕ) → event ≡ NewIdentifiers ids now → read ≡ ids → GivesRight event s → give_refusal read s ≡ None
@@ -25,4 +25,4 @@ core_ids-requires-clause-right g c = (few_right _ c.args.core.now.lower.ids (giv
 
 -- they are given
 pub returns-in_ok-core_ids-in-NewIdentifiers : goal.returns-in_ok-core_ids-in-NewIdentifiers
-returns-in_ok-core_ids-in-NewIdentifiers g c = given_leads _ c.args.event _ _ _ _ _ _ _ c.in-NewIdentifiers.is c.as_slice.ensures refl c.new-did.ensures c.in_ok-core_ids-in-NewIdentifiers.ensures
+returns-in_ok-core_ids-in-NewIdentifiers g c = given_leads _ c.args.event _ _ _ _ _ _ _ c.in-NewIdentifiers.is c.as_slice.ensures refl c.clear.ensures c.in_ok-core_ids-in-NewIdentifiers.ensures

@@ -18,19 +18,9 @@ returns-in-Some-after_word c = rw c.in-Some-after_word.ensures (c.time_line.ensu
 pub returns-in-Some-after_word-7 : goal.returns-in-Some-after_word-7
 returns-in-Some-after_word-7 c = rw c.in-Some-after_word-7.ensures (on_side c.secret_line.result (codes "set secret " ++ c.in-Some-after_word-7.field.now) c.args.side c.secret_line.ensures)
 
-pub returns-in-Some-after_word-8 : goal.returns-in-Some-after_word-8
-returns-in-Some-after_word-8 c = rw c.in-Some-after_word-8.ensures (c.limit_initial_line.ensures c.args.side)
-
-pub returns-in-Some-after_word-9 : goal.returns-in-Some-after_word-9
-returns-in-Some-after_word-9 c = rw c.in-Some-after_word-9.ensures (c.limit_handshake_line.ensures c.args.side)
-
-pub returns-in-Some-after_word-10 : goal.returns-in-Some-after_word-10
-returns-in-Some-after_word-10 c = rw c.in-Some-after_word-10.ensures (c.limit_data_line.ensures c.args.side)
-
-pub returns-in-Some-after_word-11 : goal.returns-in-Some-after_word-11
-returns-in-Some-after_word-11 c = rw c.in-Some-after_word-11.ensures (c.limit_failures_line.ensures c.args.side)
+pub returns-in-Some-keys_line : goal.returns-in-Some-keys_line
+returns-in-Some-keys_line c = c.in-Some-keys_line.ensures c.args.side
 
 pub returns : goal.returns
-returns c = last_read c.args.text.now c.in_default.ensures c.in_default-after_word.ensures c.in_default-after_word-2.ensures c.in_default-after_word-3.ensures c.in_default-after_word-4.ensures c.in_default-after_word-5.ensures
-    c.in_default-after_word-6.ensures c.in_default-after_word-7.ensures c.in_default-after_word-8.ensures c.in_default-after_word-9.ensures c.in_default-after_word-10.ensures
-    c.in_default-after_word-11.ensures c.in_default-after_word-12.ensures c.in_default-after_word-13.ensures c.in_default-after_word-14.ensures c.in_default-after_word-15.ensures c.in_default-after_word-16.ensures c.transport_line.result c.transport_line.ensures c.args.side
+returns c = last_read c.args.side c.args.text.now c.in_default.ensures c.in_default-after_word.ensures c.in_default-after_word-2.ensures c.in_default-after_word-3.ensures c.in_default-after_word-4.ensures c.in_default-after_word-5.ensures
+    c.in_default-after_word-6.ensures c.in_default-after_word-7.ensures (c.in_default-keys_line.ensures c.args.side) (rw c.in_default-2.is at c.in_ok-setting.ensures) c.transport_line.result (c.transport_line.ensures c.args.side)

@@ -30,10 +30,13 @@ returns-clause-leads g c =
 
 pub returns-clause-bytes : goal.returns-clause-bytes
 returns-clause-bytes g c =
-    spelled_by _ (ideal g.U.Random.Rng.stream c.args.core.now) c.args.form c.in_ok-header.header c.args.least c.args.frames _ _ _ c.in_ok-header.ensures c.in_ok-seal_with.ensures.frames c.in_ok-seal_with.ensures.bytes
+    rw (← c.reserve.ensures.items)
+    (spelled_by _ (ideal g.U.Random.Rng.stream c.args.core.now) c.args.form c.in_ok-header.header c.args.least c.args.frames _ _ _ c.in_ok-header.ensures c.in_ok-seal_with.ensures.frames c.in_ok-seal_with.ensures.bytes)
 
 pub returns-clause-full : goal.returns-clause-full
-returns-clause-full g c = sized (ideal g.U.Random.Rng.stream c.args.core.now) c.args.form c.in_ok-header.header c.args.least _ _ c.args.frames c.in_ok-header.ensures c.in_ok-seal_with.ensures.full
+returns-clause-full g c =
+    rw (← c.reserve.ensures.items)
+    (sized (ideal g.U.Random.Rng.stream c.args.core.now) c.args.form c.in_ok-header.header c.args.least _ _ c.args.frames c.in_ok-header.ensures c.in_ok-seal_with.ensures.full)
 
 pub returns-clause-long : goal.returns-clause-long
 returns-clause-long g c = omega (arith, c.len-end.ensures, c.len-end.type_inv)

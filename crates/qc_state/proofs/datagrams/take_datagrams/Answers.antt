@@ -23,5 +23,5 @@ loop-datagram-smaller c = omega (arith, c.in-Some.ensures.fits, c.min.ensures, c
 pub loop-datagram-preserved : goal.loop-datagram-preserved
 loop-datagram-preserved c =
     subst (λ (n : ℕ). TakesDatagrams c.args.room c.args.datagrams.now c.draw_datagram.new.datagrams c.args.frames.now c.push.new.self (c.loop-datagram.left - n)) (sym c.frame_size-left.ensures)
-    (datagram_taken c.args.room c.loop-datagram.left c.min.result c.args.datagrams.now c.loop-datagram.datagrams c.draw_datagram.new.datagrams c.args.frames.now c.loop-datagram.frames c.push.new.self c.in-Some.datagram (owned c.in_ok-frame.frame)
-    c.loop-datagram.invariant (omega (arith, c.min.ensures)) (omega (arith, c.min.ensures)) c.in-Some.ensures.given c.in-Some.ensures.fits c.in-Some.ensures.sealed c.in_ok-frame.ensures c.in_ok-push.ensures.ok)
+    (datagram_taken c.args.room c.loop-datagram.left c.min.result c.args.datagrams.now c.loop-datagram.datagrams c.draw_datagram.new.datagrams c.args.frames.now c.loop-datagram.frames c.push.new.self c.in-Some.datagram (owned c.frame_of-frame.result)
+    c.loop-datagram.invariant (omega (arith, c.min.ensures)) (omega (arith, c.min.ensures)) c.in-Some.ensures.given c.in-Some.ensures.fits c.in-Some.ensures.sealed c.frame_of-frame.ensures c.in_ok-push.ensures.ok)

@@ -10,10 +10,10 @@ returns-then-not-due c = takes_none c.args.now c.args.room c.args.due _ _ _ _ 0 
 
 -- one is due that has no room
 pub returns-then-room-len : goal.returns-then-room-len
-returns-then-room-len c = takes_left_out c.args.now c.args.room c.args.due c.args.space.now _ c.in_ok-len.len (ack_map (λ b. b.items) c.in_ok-ack.ack) c.if-not-due.false c.in_ok-ack.ensures c.in_ok-len.ensures c.if-room-len.true
+returns-then-room-len c = takes_left_out c.args.now c.args.room c.args.due c.args.space.now _ c.in_ok-len.len (ack_map (λ b. b) c.in_ok-ack.ack) c.if-not-due.false c.in_ok-ack.ensures c.in_ok-len.ensures c.if-room-len.true
 
 -- one is due
 pub returns : goal.returns
 returns c =
-    takes_one c.args.now c.args.room c.args.due c.args.space.now _ _ _ _ (ack_map (λ b. b.items) c.in_ok-ack.ack) c.if-not-due.false c.in_ok-ack.ensures c.if-room-len.false c.in_ok-push.ensures.ok
+    takes_one c.args.now c.args.room c.args.due c.args.space.now _ _ _ _ (ack_map (λ b. b) c.in_ok-ack.ack) c.if-not-due.false c.in_ok-ack.ensures c.if-room-len.false c.in_ok-push.ensures.ok
     (ap (λ (p : PendingValues). record c.args.space.now { acks = p }) c.sent.ensures) c.in_ok-len.ensures

@@ -1,4 +1,4 @@
-use Rattle.std.proofs.Common.{◌∙◌, ◌≤◌, ◌-◌, length, arith, inr, sym, ap}
+use Rattle.std.proofs.Common.{◌∙◌, ◌≤◌, ◌-◌, length, arith, inr, refl, sym, ap}
 use Rattle.std.specs.Option.{is_some}
 use Rattle.qc_send_stream.specs.Buffer.{Buffer, has_bytes, waiting}
 use Rattle.qc_state.proofs.Taken.{crypto_end, crypto_none, crypto_taken}
@@ -25,9 +25,9 @@ pub loop-left-preserved : goal.loop-left-preserved
 loop-left-preserved c = λ w gs n takes.
     let few : length c.in-Some.bytes ≤ c.loop-left.left - 17 = rw c.in-Some.is at c.in_ok-take.ensures.most in
     c.loop-left.invariant w gs n
-    (crypto_taken c.loop-left.left c.crypto_len-left.result n c.loop-left.space w c.loop-left.frames _ gs c.take.new.self c.in-Some.offset c.in-Some.bytes c.as_slice.result.now c.in_ok-body-in-Some.body.items
+    (crypto_taken c.loop-left.left c.crypto_len-left.result n c.loop-left.space w c.loop-left.frames _ gs c.take.new.self c.in-Some.offset c.in-Some.bytes c.in-Some.bytes c.in-Some.bytes
     (rw c.in-Some.is at c.in_ok-take.ensures.part) c.crypto_len-left.ensures.value (omega (arith, few, c.loop-left-test.true, c.crypto_len-left.ensures.most))
-    (rw c.in-Some.is at c.in_ok-take.ensures.taken) c.as_slice.ensures c.in_ok-body-in-Some.ensures.items c.in_ok-push-in-Some.ensures.ok takes)
+    (rw c.in-Some.is at c.in_ok-take.ensures.taken) refl refl c.in_ok-push-in-Some.ensures.ok takes)
 
 -- there is no room for another
 pub returns-clause-takes : goal.returns-clause-takes
